@@ -1,0 +1,2 @@
+-- Lemmas and proofs of the promises.
+pub mod Worked
