@@ -19,9 +19,10 @@ means-behind d (Table o n rest) x t p = means-behind d rest x t (apply d t n p p
 means-behind d (Single o a rest) x t p = means-behind d rest x t (act d a p)
 means-behind d (If o c one two rest) x t p =
     elim (passes c p) as (λ z. cond z (means d (pathsOf one (pathsOf rest x)) t p) (means d (pathsOf two (pathsOf rest x)) t p)
-            ≡ means d x t (done d rest t (cond z (done d one t p) (done d two t p)))) [
-        true ↦ means-behind d one (pathsOf rest x) t p ∙ means-behind d rest x t (done d one t p)
-      | false ↦ means-behind d two (pathsOf rest x) t p ∙ means-behind d rest x t (done d two t p) ]
+    ≡ means d x t (done d rest t (cond z (done d one t p) (done d two t p)))) [
+      | true ↦ means-behind d one (pathsOf rest x) t p ∙ means-behind d rest x t (done d one t p)
+      | false ↦ means-behind d two (pathsOf rest x) t p ∙ means-behind d rest x t (done d two t p)
+    ]
 
 pub blocks-mean : BlocksMean
 unfolding means

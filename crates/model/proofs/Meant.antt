@@ -27,7 +27,6 @@ use Rattle.model.proofs.Slots.{worked-length}
 use Rattle.model.proofs.Tracking.{Agrees, agree-run, agree-takes}
 
 module _ (k : ℕ) where
-
   -- a slot of stage s holds what a step brought: nothing, or a packet of which so much is left to do as makes it what is meant
   abbrev Holding : (ℕ → Version) → ℕ → ℕ → Arrival → Slot ℕ → Type 0
   Holding vs newest s Idle Free = Unit {0}
@@ -123,7 +122,6 @@ departures-split (suc n) [] = refl
 departures-split (suc n) (m ∷ ms) = departures-split n ms
 
 module _ (d : Declarations) (x : Paths) (n : ℕ) (ns : List Node) (lays : Layout (suc n) ns x) where
-
   -- the pipeline after events: its newest version has the tables as they stand, and its slots hold what is meant
   record Good (c : Pipeline ℕ) (t : Tables) (ms : List Arrival) : Type 0 where
     now : c .versions (c .newest) ≡ version d ns t
@@ -137,17 +135,21 @@ module _ (d : Declarations) (x : Paths) (n : ℕ) (ns : List Node) (lays : Layou
   good-step : (a : Arrival) (c : Pipeline ℕ) (t : Tables) (ms : List Arrival) → Good c t ms → Good (advance a c) t (meantFor d x t a ∷ ms)
   good-step a c t ms g = record {
     now = g .now;
-    under = (arriving-holds (c .versions) (c .newest) t a (g .now),
+    under = (
+      arriving-holds (c .versions) (c .newest) t a (g .now),
       under-but-last (suc n) (c .versions) (c .newest) (0 + 1) (worked (c .versions) 0 (c .slots)) ms
-        (under-worked (suc n) (c .versions) (c .newest) 0 (c .slots) ms (g .under))) }
+          (under-worked (suc n) (c .versions) (c .newest) 0 (c .slots) ms (g .under)),
+    );
+  }
 
   good-update : (gs : List Edit) (c : Pipeline ℕ) (t : Tables) (ms : List Arrival) → Good c t ms → Good (renewed counted gs c) (editedAll gs t) ms
   good-update gs c t ms g = record {
     now = cond-true (eqb (suc (c .newest)) (suc (c .newest))) (updated gs (c .versions (c .newest))) (c .versions (suc (c .newest))) (eq-eqb (suc (c .newest)) (suc (c .newest)) refl)
-      ∙ ap (updated gs) (g .now);
+        ∙ ap (updated gs) (g .now);
     under = under-renewed (suc n) (c .versions) (renewed counted gs c .versions) (c .newest) 0
-      (λ v h. cond-false (eqb v (suc (c .newest))) (updated gs (c .versions (c .newest))) (c .versions v) (ne-eqb v (suc (c .newest)) (λ (e : v ≡ suc (c .newest)). omega arith)))
-      (c .slots) ms (g .under) }
+        (λ v h. cond-false (eqb v (suc (c .newest))) (updated gs (c .versions (c .newest))) (c .versions v) (ne-eqb v (suc (c .newest)) (λ (e : v ≡ suc (c .newest)). omega arith)))
+        (c .slots) ms (g .under);
+  }
 
   good-run : (t : Tables) (es : List Event) → Good (run counted (suc n) (version d ns t) es) (history (suc n) t es .tables) (meant d x (suc n) t es)
   unfolding run history meant
@@ -158,17 +160,18 @@ module _ (d : Declarations) (x : Paths) (n : ℕ) (ns : List Node) (lays : Layou
       let h = history (suc n) t es in
       rw (agree-takes (suc n) (run counted (suc n) (version d ns t) es) (history (suc n) t es) (agree-run n (version d ns t) es))
       (elim (takenNow (suc n) (history (suc n) t es)) as (λ z. Good (cond z (renewed counted gs c) c)
-              (cond z (record { newest = suc (h .newest); steps = h .steps; tables = editedAll gs (h .tables) }) h .tables) (meant d x (suc n) t es)) [
-          true ↦ good-update gs c (h .tables) (meant d x (suc n) t es) (good-run t es)
-        | false ↦ good-run t es ])
+      (cond z (record { newest = suc (h .newest); steps = h .steps; tables = editedAll gs (h .tables) }) h .tables) (meant d x (suc n) t es)) [
+        | true ↦ good-update gs c (h .tables) (meant d x (suc n) t es) (good-run t es)
+        | false ↦ good-run t es
+      ])
 
   leaves-meant : (t : Tables) (es : List Event) → leaves (run counted (suc n) (version d ns t) es) ≡ departures (take 1 (drop n (meant d x (suc n) t es)))
   leaves-meant t es =
       let c = run counted (suc n) (version d ns t) es in
       let one : 0 + 1 + n ≡ suc n = omega arith in
       last-leaves (suc n) (c .versions) (c .newest) (0 + 1) n (worked (c .versions) 0 (c .slots)) (meant d x (suc n) t es)
-        (under-worked (suc n) (c .versions) (c .newest) 0 (c .slots) (meant d x (suc n) t es) (good-run t es .under))
-        (worked-length (c .versions) 0 (c .slots) ∙ agree-run n (version d ns t) es .slots) one
+      (under-worked (suc n) (c .versions) (c .newest) 0 (c .slots) (meant d x (suc n) t es) (good-run t es .under))
+      (worked-length (c .versions) 0 (c .slots) ∙ agree-run n (version d ns t) es .slots) one
 
   outputs-meant : (t : Tables) (es : List Event) → outputs counted (suc n) (version d ns t) es ≡ departures (drop (suc n) (meant d x (suc n) t es))
   unfolding outputs meant departures
@@ -183,4 +186,5 @@ as-meant d x (suc n) ns pos lays t es =
     let less : suc n - 1 ≡ n = omega arith in
     record {
       all = outputs-meant d x n ns lays t es;
-      after-k-steps = leaves-meant d x n ns lays t es ∙ ap (λ (z : ℕ). departures (take 1 (drop z (meant d x (suc n) t es)))) (sym less) }
+      after-k-steps = leaves-meant d x n ns lays t es ∙ ap (λ (z : ℕ). departures (take 1 (drop z (meant d x (suc n) t es)))) (sym less);
+    }

@@ -63,7 +63,6 @@ lower (Lays.branches is h1 h2 h3 h4 h5 more1 more2) = Lays.branches is h1 h2 h3 
 lower (Lays.acts is h1 h2 h3 h4 more) = Lays.acts is h1 h2 h3 h4 more
 
 module _ (k : ℕ) (v : Version) (s : ℕ) (seen goal : Packet) where
-
   abbrev Next : Transit → Type 0
   Next u = Ready k v (suc s) goal u
 
@@ -77,33 +76,34 @@ module _ (k : ℕ) (v : Version) (s : ℕ) (seen goal : Packet) where
   stage-work {i} (Lays.applies {o = o} {n = n} {j = j} {x = x} is h1 h2 h3 h4 h5 more) (suc turns) p hs hp ht e =
       ⊎-elim
       (λ (here : nodeAt (v .nodes) i .stage ≡ s).
-        subst Next (sym (stage-goes turns v s seen (record { packet = p; at = i }) (Look n j) is refl here))
-        (stage-work more turns (apply (v .declarations) (v .tables) n seen p) (omega arith) (λ bad. absurd (omega arith)) (omega arith)
-          (subst (λ (z : Packet). means (v .declarations) x (v .tables) (apply (v .declarations) (v .tables) n z p) ≡ goal) (hp (omega arith)) e)))
+      subst Next (sym (stage-goes turns v s seen (record { packet = p; at = i }) (Look n j) is refl here))
+      (stage-work more turns (apply (v .declarations) (v .tables) n seen p) (omega arith) (λ bad. absurd (omega arith)) (omega arith)
+      (subst (λ (z : Packet). means (v .declarations) x (v .tables) (apply (v .declarations) (v .tables) n z p) ≡ goal) (hp (omega arith)) e)))
       (λ (away : nodeAt (v .nodes) i .stage ≡ s → ⊥).
-        subst Next (sym (stage-leaves (suc turns) v s seen (record { packet = p; at = i }) away))
-        (record { paths = Apply o n x; lays = Lays.applies is (omega arith) zero-le h3 h4 h5 more; same = e }))
+      subst Next (sym (stage-leaves (suc turns) v s seen (record { packet = p; at = i }) away))
+      (record { paths = Apply o n x; lays = Lays.applies is (omega arith) zero-le h3 h4 h5 more; same = e }))
       (cases-eq (nodeAt (v .nodes) i .stage) s)
   stage-work {i} (Lays.branches {o = o} {j = j} {l = l2} {c = c} {x = x} {y = y} is h1 h2 h3 h4 h5 more1 more2) zero p hs hp ht e = absurd (omega arith)
   stage-work {i} (Lays.branches {t = t} {o = o} {j = j} {l = l2} {c = c} {x = x} {y = y} is h1 h2 h3 h4 h5 more1 more2) (suc turns) p hs hp ht e =
       ⊎-elim
       (λ (here : nodeAt (v .nodes) i .stage ≡ s).
-        subst Next (sym (stage-goes turns v s seen (record { packet = p; at = i }) (Ask c j l2) is refl here))
-        ((elim (passes c p) as (λ z. cond z (means (v .declarations) x (v .tables) p) (means (v .declarations) y (v .tables) p) ≡ goal →
-              Next (onStage turns v s seen (record { packet = p; at = cond z j l2 }))) [
-            true ↦ λ e1. stage-work more1 turns p (omega arith) hp (omega arith) e1
-          | false ↦ λ e1. stage-work more2 turns p (omega arith) hp (omega arith) e1 ]) e))
+      subst Next (sym (stage-goes turns v s seen (record { packet = p; at = i }) (Ask c j l2) is refl here))
+      ((elim (passes c p) as (λ z. cond z (means (v .declarations) x (v .tables) p) (means (v .declarations) y (v .tables) p) ≡ goal →
+      Next (onStage turns v s seen (record { packet = p; at = cond z j l2 }))) [
+        | true ↦ λ e1. stage-work more1 turns p (omega arith) hp (omega arith) e1
+        | false ↦ λ e1. stage-work more2 turns p (omega arith) hp (omega arith) e1
+      ]) e))
       (λ (away : nodeAt (v .nodes) i .stage ≡ s → ⊥).
-        subst Next (sym (stage-leaves (suc turns) v s seen (record { packet = p; at = i }) away))
-        (record { paths = Branch o c x y; lays = Lays.branches is (omega arith) h2 h3 h4 h5 (lower more1) (lower more2); same = e }))
+      subst Next (sym (stage-leaves (suc turns) v s seen (record { packet = p; at = i }) away))
+      (record { paths = Branch o c x y; lays = Lays.branches is (omega arith) h2 h3 h4 h5 (lower more1) (lower more2); same = e }))
       (cases-eq (nodeAt (v .nodes) i .stage) s)
   stage-work {i} (Lays.acts {o = o} {j = j} {a = a} {x = x} is h1 h2 h3 h4 more) zero p hs hp ht e = absurd (omega arith)
   stage-work {i} (Lays.acts {o = o} {j = j} {a = a} {x = x} is h1 h2 h3 h4 more) (suc turns) p hs hp ht e =
       ⊎-elim
       (λ (here : nodeAt (v .nodes) i .stage ≡ s).
-        subst Next (sym (stage-goes turns v s seen (record { packet = p; at = i }) (Do a j) is refl here))
-        (stage-work more turns (act (v .declarations) a p) (omega arith) (λ bad. absurd (omega arith)) (omega arith) e))
+      subst Next (sym (stage-goes turns v s seen (record { packet = p; at = i }) (Do a j) is refl here))
+      (stage-work more turns (act (v .declarations) a p) (omega arith) (λ bad. absurd (omega arith)) (omega arith) e))
       (λ (away : nodeAt (v .nodes) i .stage ≡ s → ⊥).
-        subst Next (sym (stage-leaves (suc turns) v s seen (record { packet = p; at = i }) away))
-        (record { paths = Act o a x; lays = Lays.acts is (omega arith) h2 h3 h4 more; same = e }))
+      subst Next (sym (stage-leaves (suc turns) v s seen (record { packet = p; at = i }) away))
+      (record { paths = Act o a x; lays = Lays.acts is (omega arith) h2 h3 h4 more; same = e }))
       (cases-eq (nodeAt (v .nodes) i .stage) s)

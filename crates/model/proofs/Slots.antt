@@ -8,7 +8,6 @@ use Rattle.model.specs.Version.{Version}
 use Rattle.model.specs.Pipeline.{Slot, Free, Holds, Numbering, Pipeline, Arrival, workedSlot, worked, butLast, arriving, advance, free}
 
 module _ {V : Type 0} where
-
   pub worked-length : (vs : V → Version) (s : ℕ) (xs : List (Slot V)) → length (worked vs s xs) ≡ length xs
   unfolding worked
   worked-length vs s [] = refl

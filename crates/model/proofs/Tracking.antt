@@ -73,24 +73,28 @@ pub record Agrees (k : ℕ) (c : Pipeline ℕ) (h : History) : Type 0 where
 pub agree-takes : (k : ℕ) (c : Pipeline ℕ) (h : History) → Agrees k c h → takes counted c ≡ takenNow k h
 agree-takes k c h g =
     ap not (tracks-older (c .newest) (c .slots) (h .steps) (g .tracks)
-      ∙ ap₂ (λ (n m : ℕ). anyBefore n (take m (h .steps))) (g .newest) (g .slots))
+    ∙ ap₂ (λ (n m : ℕ). anyBefore n (take m (h .steps))) (g .newest) (g .slots))
 
 agree-step : (n : ℕ) (a : Arrival) (c : Pipeline ℕ) (h : History) → Agrees (suc n) c h →
     Agrees (suc n) (advance a c) (record { newest = h .newest; steps = broughtBy (h .newest) a ∷ h .steps; tables = h .tables })
 agree-step n a c h g = record {
   newest = g .newest;
-  tracks = (came-arriving (c .newest) a ∙ ap (λ (z : ℕ). broughtBy z a) (g .newest),
-    tracks-but-last (worked (c .versions) 0 (c .slots)) (h .steps) (tracks-worked (c .versions) 0 (c .slots) (h .steps) (g .tracks)));
-  slots = advance-length n a c (g .slots) }
+  tracks = (
+    came-arriving (c .newest) a ∙ ap (λ (z : ℕ). broughtBy z a) (g .newest),
+    tracks-but-last (worked (c .versions) 0 (c .slots)) (h .steps) (tracks-worked (c .versions) 0 (c .slots) (h .steps) (g .tracks)),
+  );
+  slots = advance-length n a c (g .slots);
+}
 
 agree-update : (k : ℕ) (gs : List Edit) (c : Pipeline ℕ) (h : History) → Agrees k c h →
     Agrees k (cond (takes counted c) (renewed counted gs c) c)
-      (cond (takenNow k h) (record { newest = suc (h .newest); steps = h .steps; tables = editedAll gs (h .tables) }) h)
+    (cond (takenNow k h) (record { newest = suc (h .newest); steps = h .steps; tables = editedAll gs (h .tables) }) h)
 agree-update k gs c h g =
     rw (agree-takes k c h g)
     (elim (takenNow k h) as (λ z. Agrees k (cond z (renewed counted gs c) c) (cond z (record { newest = suc (h .newest); steps = h .steps; tables = editedAll gs (h .tables) }) h)) [
-        true ↦ record { newest = ap suc (g .newest); tracks = g .tracks; slots = g .slots }
-      | false ↦ g ])
+      | true ↦ record { newest = ap suc (g .newest); tracks = g .tracks; slots = g .slots }
+      | false ↦ g
+    ])
 
 pub agree-run : (n : ℕ) (v : Version) (es : List Event) → Agrees (suc n) (run counted (suc n) v es) (history (suc n) (v .tables) es)
 unfolding run history

@@ -21,7 +21,6 @@ abbrev Alike : ℕ → (Bool → Version) → (ℕ → Version) → Type 0
 Alike newest bs vs = (v : ℕ) → v ≤ newest → newest ≤ suc v → bs (bit v) ≡ vs v
 
 module _ (newest : ℕ) (bs : Bool → Version) (vs : ℕ → Version) (alike : Alike newest bs vs) where
-
   slot-worked : (s : ℕ) (x : Slot ℕ) → NewestOrBefore newest x → workedSlot bs s (bitSlot x) ≡ bitSlot (workedSlot vs s x)
   slot-worked s Free h = refl
   slot-worked s (Holds u v) h = ap (λ (z : Version). Holds (onStage (length (z .nodes)) z s (u .packet) u) (bit v)) (alike v (h .0) (h .1))
@@ -75,8 +74,8 @@ older-bits newest v h1 h2 =
     ⊎-elim
     (λ (e : v ≡ newest). ap (λ (z : ℕ). not (Bool·beq (bit newest) (bit z))) e ∙ ap not (beq-same (bit newest)) ∙ sym (le-ltb v newest (omega arith)))
     (λ (ne : v ≡ newest → ⊥).
-      let next : newest ≡ suc v = omega arith in
-      ap (λ (z : ℕ). not (Bool·beq (bit z) (bit v))) next ∙ ap not (beq-not (bit v)) ∙ sym (lt-ltb v newest (omega arith)))
+    let next : newest ≡ suc v = omega arith in
+    ap (λ (z : ℕ). not (Bool·beq (bit z) (bit v))) next ∙ ap not (beq-not (bit v)) ∙ sym (lt-ltb v newest (omega arith)))
     (cases-eq v newest)
 
 slot-older-bits : (newest : ℕ) (x : Slot ℕ) → NewestOrBefore newest x → olderSlot oneBit (bit newest) (bitSlot x) ≡ olderSlot counted newest x
@@ -144,28 +143,28 @@ twin-takes b c w = ap not (ap₂ (anyOlder oneBit) (w .newest) (w .slots) ∙ an
 twin-step : (a : Arrival) (b : Pipeline Bool) (c : Pipeline ℕ) → Twin b c → Twin (advance a b) (advance a c)
 twin-step a b c w = record {
   slots = ap₂ (λ (y : Slot Bool) (ys : List (Slot Bool)). y ∷ ys)
-    (ap (λ (v : Bool). arriving v a) (w .newest) ∙ arriving-bits (c .newest) a)
-    (ap butLast (twin-worked b c w) ∙ but-last-bits (worked (c .versions) 0 (c .slots)));
+      (ap (λ (v : Bool). arriving v a) (w .newest) ∙ arriving-bits (c .newest) a)
+      (ap butLast (twin-worked b c w) ∙ but-last-bits (worked (c .versions) 0 (c .slots)));
   newest = w .newest;
   versions = w .versions;
-  two = (arriving-new (c .newest) a, each-but-last (NewestOrBefore (c .newest)) (worked (c .versions) 0 (c .slots)) (slots-kept (c .newest) (c .versions) 0 (c .slots) (w .two))) }
+  two = (arriving-new (c .newest) a, each-but-last (NewestOrBefore (c .newest)) (worked (c .versions) 0 (c .slots)) (slots-kept (c .newest) (c .versions) 0 (c .slots) (w .two)));
+}
 
 module _ (gs : List Edit) (b : Pipeline Bool) (c : Pipeline ℕ) (w : Twin b c) where
-
   -- the next version, by its bit and by its number; the newest until now is the one before
   renewed-alike : Alike (suc (c .newest)) (renewed oneBit gs b .versions) (renewed counted gs c .versions)
   unfolding bit
   renewed-alike v h1 h2 =
       ⊎-elim
       (λ (e : v ≡ suc (c .newest)).
-        let bits : bit v ≡ not (b .newest) = ap bit e ∙ ap not (sym (w .newest)) in
-        let now = w .versions (c .newest) (le-refl _) (omega arith) in
-        rw (bits, beq-same (not (b .newest)), eq-eqb v (suc (c .newest)) e, w .newest) (ap (updated gs) now))
+      let bits : bit v ≡ not (b .newest) = ap bit e ∙ ap not (sym (w .newest)) in
+      let now = w .versions (c .newest) (le-refl _) (omega arith) in
+      rw (bits, beq-same (not (b .newest)), eq-eqb v (suc (c .newest)) e, w .newest) (ap (updated gs) now))
       (λ (ne : v ≡ suc (c .newest) → ⊥).
-        let before : v ≡ c .newest = omega arith in
-        let bits : bit v ≡ b .newest = ap bit before ∙ sym (w .newest) in
-        let old = w .versions v (omega arith) (omega arith) in
-        rw (bits, beq-not-right (b .newest), ne-eqb v (suc (c .newest)) ne) (ap (b .versions) (sym bits) ∙ old))
+      let before : v ≡ c .newest = omega arith in
+      let bits : bit v ≡ b .newest = ap bit before ∙ sym (w .newest) in
+      let old = w .versions v (omega arith) (omega arith) in
+      rw (bits, beq-not-right (b .newest), ne-eqb v (suc (c .newest)) ne) (ap (b .versions) (sym bits) ∙ old))
       (cases-eq v (suc (c .newest)))
 
   twin-renewed : takes counted c ≡ true → Twin (renewed oneBit gs b) (renewed counted gs c)
@@ -174,14 +173,16 @@ module _ (gs : List Edit) (b : Pipeline Bool) (c : Pipeline ℕ) (w : Twin b c) 
     slots = w .slots;
     newest = ap not (w .newest);
     versions = renewed-alike;
-    two = each-renewed (c .newest) (c .slots) (not-true (anyOlder counted (c .newest) (c .slots)) e) (w .two) }
+    two = each-renewed (c .newest) (c .slots) (not-true (anyOlder counted (c .newest) (c .slots)) e) (w .two);
+  }
 
   twin-update : Twin (event oneBit (Update gs) b) (event counted (Update gs) c)
   twin-update =
       rw (twin-takes b c w)
       ((elim (takes counted c) as (λ z. takes counted c ≡ z → Twin (cond z (renewed oneBit gs b) b) (cond z (renewed counted gs c) c)) [
-          true ↦ λ e. twin-renewed e
-        | false ↦ λ e. w ]) refl)
+        | true ↦ λ e. twin-renewed e
+        | false ↦ λ e. w
+      ]) refl)
 
 twin-run : (k : ℕ) (v : Version) (es : List Event) → Twin (run oneBit k v es) (run counted k v es)
 unfolding run bit
@@ -203,4 +204,5 @@ two-suffice k v es =
       same-output = twin-outputs k v es;
       same-answer = twin-takes (run oneBit k v es) (run counted k v es) w;
       same-slots = w .slots;
-      same-newest = w .newest }
+      same-newest = w .newest;
+    }

@@ -32,7 +32,6 @@ history-same k t (Update gs ∷ es) before p q =
     ap {B = History} (λ (h : History). cond (takenNow k h) (record { newest = suc (h .newest); steps = h .steps; tables = editedAll gs (h .tables) }) h) (history-same k t es before p q)
 
 module _ (d : Declarations) (x : Paths) (k : ℕ) (t : Tables) (before : List Event) (p : Packet) where
-
   -- what is meant of what comes later
   meantLater : List Event → List Arrival
   meantLater [] = []
@@ -71,7 +70,6 @@ departures-append [] ys = refl
 departures-append (x ∷ xs) ys = ap (λ (l : List Departure). departsAs x ++ l) (departures-append xs ys) ∙ sym (append-assoc (departsAs x) (departures xs) (departures ys))
 
 module _ (d : Declarations) (x : Paths) (k : ℕ) (ns : List Node) (pos : 0 < k) (lays : Layout k ns x) (t : Tables) (later before : List Event) where
-
   out : Packet → List Departure
   out p = outputs counted k (version d ns t) (later ++ (Step (Comes p) ∷ before))
 
@@ -88,9 +86,9 @@ module _ (d : Declarations) (x : Paths) (k : ℕ) (ns : List Node) (pos : 0 < k)
       let len = later-length d x k t before p later in
       let short : length (meantLater d x k t before p later) < k = omega arith in
       out-is p
-        ∙ ap departures (drop-past k (meantLater d x k t before p later) (one p) (one q) (meant d x k t before) short
-          ∙ ap (λ (l : List Arrival). drop k (l ++ (one q ∷ meant d x k t before))) (later-same d x k t before p q later))
-        ∙ sym (out-is q)
+      ∙ ap departures (drop-past k (meantLater d x k t before p later) (one p) (one q) (meant d x k t before) short
+      ∙ ap (λ (l : List Arrival). drop k (l ++ (one q ∷ meant d x k t before))) (later-same d x k t before p q later))
+      ∙ sym (out-is q)
 
   -- what left behind it, and what left before it
   behind : Packet → List Departure
@@ -105,7 +103,7 @@ module _ (d : Declarations) (x : Paths) (k : ℕ) (ns : List Node) (pos : 0 < k)
       let len = later-length d x k t before p later in
       let long : k ≤ length (meantLater d x k t before p later) = omega arith in
       out-is p ∙ ap departures (drop-append-le k (meantLater d x k t before p later) (one p ∷ meant d x k t before) long)
-        ∙ departures-append (drop k (meantLater d x k t before p later)) (one p ∷ meant d x k t before)
+      ∙ departures-append (drop k (meantLater d x k t before p later)) (one p ∷ meant d x k t before)
 
   behind-same : (p q : Packet) → behind p ≡ behind q
   unfolding behind
@@ -114,15 +112,16 @@ module _ (d : Declarations) (x : Paths) (k : ℕ) (ns : List Node) (pos : 0 < k)
   same-length : (p q : Packet) → k ≤ stepsIn later → length (out p) ≡ length (out q)
   same-length p q h =
       ap length (has-left p h) ∙ length-append (behind p) (departs (means d x (history k t before .tables) p) ++ ahead)
-        ∙ ap (λ (l : List Departure). length l + suc (length ahead)) (behind-same p q)
-        ∙ sym (length-append (behind q) (departs (means d x (history k t before .tables) q) ++ ahead)) ∙ sym (ap length (has-left q h))
+      ∙ ap (λ (l : List Departure). length l + suc (length ahead)) (behind-same p q)
+      ∙ sym (length-append (behind q) (departs (means d x (history k t before .tables) q) ++ ahead)) ∙ sym (ap length (has-left q h))
 
   pub undisturbed : (p q : Packet) → Undisturbed d x k ns t later before p q
   unfolding out
   undisturbed p q = record {
     as-many = ⊎-elim (λ (h : stepsIn later < k). ap length (still-under-way p q h)) (λ (h : k ≤ stepsIn later). same-length p q h) (cases-lt (stepsIn later) k);
     under-way = still-under-way p q;
-    others = λ h. (behind p, ahead, has-left p h, has-left q h ∙ ap (λ (l : List Departure). l ++ (departs (means d x (history k t before .tables) q) ++ ahead)) (behind-same q p)) }
+    others = λ h. (behind p, ahead, has-left p h, has-left q h ∙ ap (λ (l : List Departure). l ++ (departs (means d x (history k t before .tables) q) ++ ahead)) (behind-same q p));
+  }
 
 pub alone : Alone
 alone d x k ns pos lays t later before p q = undisturbed d x k ns pos lays t later before p q

@@ -23,7 +23,6 @@ put-other : (f g x : ℕ) (p : Packet) → (g ≡ f → ⊥) → put f x p g ≡
 put-other f g x p ne = cond-false (eqb g f) x (p g) (ne-eqb g f ne)
 
 module _ (m : ℕ) (d : Declarations) (f : ℕ) (above : m ≤ f) where
-
   act-keeps : (a : Action) (p : Packet) → ActionBelow m a → act d a p f ≡ p f
   act-keeps (Set g o) p h = put-other g f (value o p % (2 ^ d .width g)) p (λ (e : f ≡ g). omega arith)
   act-keeps (Add g o) p h = put-other g f ((p g + value o p) % (2 ^ d .width g)) p (λ (e : f ≡ g). omega arith)
@@ -64,12 +63,14 @@ history-below m k t (Step a ∷ es) ht he = history-below m k t es ht (he .1)
 history-below m k t (Update gs ∷ es) ht he =
     let before = history-below m k t es ht (he .1) in
     elim (takenNow k (history k t es)) as (λ z. TablesBelow m (cond z
-            (record { newest = suc (history k t es .newest); steps = history k t es .steps; tables = editedAll gs (history k t es .tables) })
-            (history k t es) .tables)) [
-        true ↦ edited-all-below m gs (history k t es .tables) (he .0) before
-      | false ↦ before ]
+    (record { newest = suc (history k t es .newest); steps = history k t es .steps; tables = editedAll gs (history k t es .tables) })
+    (history k t es) .tables)) [
+      | true ↦ edited-all-below m gs (history k t es .tables) (he .0) before
+      | false ↦ before
+    ]
 
 pub untouched-fields : Untouched
 untouched-fields m = record {
   untouched = λ d x t p f hx ht h. means-keeps m d f h x t p hx ht;
-  stays = λ k t es ht he. history-below m k t es ht he }
+  stays = λ k t es ht he. history-below m k t es ht he;
+}

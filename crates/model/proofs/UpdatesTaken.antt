@@ -51,8 +51,8 @@ newest-up k t (Step a ∷ es) before = newest-up k t es before
 newest-up k t (Update gs ∷ es) before =
     let up = newest-up k t es before in
     elim (takenNow k (history k t (es ++ before))) as (λ z. history k t before .newest ≤
-          cond z (record { newest = suc (history k t (es ++ before) .newest); steps = history k t (es ++ before) .steps; tables = editedAll gs (history k t (es ++ before) .tables) })
-            (history k t (es ++ before)) .newest) [ true ↦ omega arith | false ↦ up ]
+    cond z (record { newest = suc (history k t (es ++ before) .newest); steps = history k t (es ++ before) .steps; tables = editedAll gs (history k t (es ++ before) .tables) })
+    (history k t (es ++ before)) .newest) [ true ↦ omega arith | false ↦ up ]
 
 -- as long as none is taken, what came later has the newest version
 later-is-new : (k : ℕ) (t : Tables) (later before : List Event) → history k t (later ++ before) .newest ≡ history k t before .newest →
@@ -69,10 +69,10 @@ later-is-new k t (Update gs ∷ es) before e =
     let up = newest-up k t es before in
     let ih = later-is-new k t es before in
     (elim (takenNow k (history k t (es ++ before))) as (λ z.
-          cond z (record { newest = suc (history k t (es ++ before) .newest); steps = history k t (es ++ before) .steps; tables = editedAll gs (history k t (es ++ before) .tables) })
-            (history k t (es ++ before)) .newest ≡ history k t before .newest →
-          anyBefore (history k t before .newest) (take (stepsIn es) (cond z (record { newest = suc (history k t (es ++ before) .newest); steps = history k t (es ++ before) .steps; tables = editedAll gs (history k t (es ++ before) .tables) })
-            (history k t (es ++ before)) .steps)) ≡ false) [ true ↦ λ bad. absurd (omega arith) | false ↦ ih ]) e
+    cond z (record { newest = suc (history k t (es ++ before) .newest); steps = history k t (es ++ before) .steps; tables = editedAll gs (history k t (es ++ before) .tables) })
+    (history k t (es ++ before)) .newest ≡ history k t before .newest →
+    anyBefore (history k t before .newest) (take (stepsIn es) (cond z (record { newest = suc (history k t (es ++ before) .newest); steps = history k t (es ++ before) .steps; tables = editedAll gs (history k t (es ++ before) .tables) })
+    (history k t (es ++ before)) .steps)) ≡ false) [ true ↦ λ bad. absurd (omega arith) | false ↦ ih ]) e
 
 -- none among the latest n, none among the latest k of these
 fewer : (newest k n : ℕ) (cs : List Came) → k ≤ n → anyBefore newest (take n cs) ≡ false → anyBefore newest (take k cs) ≡ false
@@ -90,12 +90,12 @@ taken-soon n v later before e h =
     let k = suc n in
     let t = v .tables in
     let same : history (suc n) (v .tables) (later ++ before) .newest ≡ history (suc n) (v .tables) before .newest =
-          sym (agree-run n v (later ++ before) .newest) ∙ e ∙ agree-run n v before .newest in
+    sym (agree-run n v (later ++ before) .newest) ∙ e ∙ agree-run n v before .newest in
     taken-by-events n v (later ++ before)
-      ∙ not-from-false (anyBefore (history (suc n) (v .tables) (later ++ before) .newest) (take (suc n) (history (suc n) (v .tables) (later ++ before) .steps)))
-        (ap (λ (z : ℕ). anyBefore z (take (suc n) (history (suc n) (v .tables) (later ++ before) .steps))) same
-          ∙ fewer (history (suc n) (v .tables) before .newest) (suc n) (stepsIn later) (history (suc n) (v .tables) (later ++ before) .steps) h
-            (later-is-new (suc n) (v .tables) later before same))
+    ∙ not-from-false (anyBefore (history (suc n) (v .tables) (later ++ before) .newest) (take (suc n) (history (suc n) (v .tables) (later ++ before) .steps)))
+    (ap (λ (z : ℕ). anyBefore z (take (suc n) (history (suc n) (v .tables) (later ++ before) .steps))) same
+    ∙ fewer (history (suc n) (v .tables) before .newest) (suc n) (stepsIn later) (history (suc n) (v .tables) (later ++ before) .steps) h
+    (later-is-new (suc n) (v .tables) later before same))
 
 pub updates : Updates
 updates zero v pos = absurd (omega arith)
@@ -103,6 +103,8 @@ updates (suc n) v pos = record {
   refused-while = λ es. (
     (λ e. old-found (run counted (suc n) v es .newest) (run counted (suc n) v es .slots) (not-false (anyOlder counted (run counted (suc n) v es .newest) (run counted (suc n) v es .slots)) e)),
     (λ o. not-from-true (anyOlder counted (run counted (suc n) v es .newest) (run counted (suc n) v es .slots))
-      (found-old (run counted (suc n) v es .newest) (run counted (suc n) v es .slots) (o .0) (o .1) (o .2) (o .4) (o .5))));
+        (found-old (run counted (suc n) v es .newest) (run counted (suc n) v es .slots) (o .0) (o .1) (o .2) (o .4) (o .5))),
+  );
   by-events = taken-by-events n v;
-  soon = taken-soon n v }
+  soon = taken-soon n v;
+}

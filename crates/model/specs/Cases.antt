@@ -31,7 +31,8 @@ pub record Case : Type 0 where
 abbrev pub declared : Declarations
 declared = record {
   width = λ f. 8;
-  table = λ n. record { kind = Ternary; looks = 1 ∷ []; sets = 2 ∷ (3 ∷ []); lines = 64 } }
+  table = λ n. record { kind = Ternary; looks = 1 ∷ []; sets = 2 ∷ (3 ∷ []); lines = 64 };
+}
 
 -- apply t; apply u;
 abbrev pub inRow : Paths
@@ -113,7 +114,8 @@ cases =
     -- B. what follows an if is laid out twice: u on stage 1 behind t, else on stage 0
     (record {
       computed = Nodes (rule branching);
-      expected = Nodes (node 0 (Ask isOne 1 4) ∷ (node 0 (Look 0 2) ∷ (node 1 (Look 1 3) ∷ (node 0 Halt ∷ (node 0 (Look 1 5) ∷ (node 0 Halt ∷ [])))))) } ∷
+      expected = Nodes (node 0 (Ask isOne 1 4) ∷ (node 0 (Look 0 2) ∷ (node 1 (Look 1 3) ∷ (node 0 Halt ∷ (node 0 (Look 1 5) ∷ (node 0 Halt ∷ []))))));
+    } ∷
     -- C. a packet that comes at step 5 leaves at step 17
     (record { computed = LeavesAt (leavingSteps (idleFor 20 (fifth []))); expected = LeavesAt (17 ∷ []) } ∷
     -- D. an update between steps 5 and 6: the packet of step 5 goes by the old entries at all its tables, that of step 6 by the new

@@ -45,7 +45,8 @@ history k t [] = record { newest = 0; steps = []; tables = t }
 history k t (Step a ∷ es) = record {
   newest = history k t es .newest;
   steps = broughtBy (history k t es .newest) a ∷ history k t es .steps;
-  tables = history k t es .tables }
+  tables = history k t es .tables;
+}
 history k t (Update gs ∷ es) =
     cond (takenNow k (history k t es))
     (record { newest = suc (history k t es .newest); steps = history k t es .steps; tables = editedAll gs (history k t es .tables) })

@@ -45,7 +45,6 @@ pub data Event : Type 0 where
   Update : List Edit → Event
 
 module _ {V : Type 0} where
-
   -- the work of stage s on its slot; the row of nodes bounds how many are done
   abbrev pub workedSlot : (V → Version) → ℕ → Slot V → Slot V
   workedSlot vs s Free = Free
@@ -76,7 +75,8 @@ module _ {V : Type 0} where
   advance a c = record {
     slots = arriving (c .newest) a ∷ butLast (worked (c .versions) 0 (c .slots));
     versions = c .versions;
-    newest = c .newest }
+    newest = c .newest;
+  }
 
   abbrev pub departing : Slot V → List Departure
   departing Free = []
@@ -104,7 +104,8 @@ module _ {V : Type 0} where
   renewed n gs c = record {
     slots = c .slots;
     versions = λ v. cond (n .same v (n .next (c .newest))) (updated gs (c .versions (c .newest))) (c .versions v);
-    newest = n .next (c .newest) }
+    newest = n .next (c .newest);
+  }
 
   abbrev pub event : Numbering V → Event → Pipeline V → Pipeline V
   event n (Step a) c = advance a c

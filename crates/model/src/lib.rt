@@ -3,6 +3,20 @@
 // The model has no code to run: specs/ says what a switch program means, what the pipeline does, and what is promised of the two.
 ghost use Rattle.model.specs.Promises.{PlacementIsSound, StoppingIsTheRule, AsMeant, Alone, Updates, TwoVersionsSuffice, BlocksMean, Untouched, WorkedCases};
 
+// What the placement rule lays out is sound, and keeps the limits of a stage.
+pub fn placement_is_sound() -> u8
+    ensures { λ _. ⌜ PlacementIsSound ⌝ }
+{
+    0
+}
+
+// Placement that stops at one node too many is the rule.
+pub fn stopping_is_the_rule() -> u8
+    ensures { λ _. ⌜ StoppingIsTheRule ⌝ }
+{
+    0
+}
+
 // Every packet leaves after k steps, in order, as the program means it with the tables as they stood when it came.
 pub fn as_meant() -> u8
     ensures { λ _. ⌜ AsMeant ⌝ }
