@@ -10,7 +10,6 @@ use Rattle.model.specs.Declarations as declarations
 use Rattle.model.specs.Action as action
 use Rattle.model.specs.Node as node
 use Rattle.program.specs.declared.field.FieldNo.{FieldNo}
-use Rattle.program.specs.declared.field.Width.{Width}
 use Rattle.program.specs.declared.field.Fields.{Fields}
 use Rattle.program.specs.declared.action.Operand.{Operand}
 use Rattle.program.specs.declared.action.Operand.the-variants.{Field, Number}
@@ -57,7 +56,7 @@ undeclared = record { kind = declarations.Ternary; looks = []; sets = []; lines 
 
 abbrev pub declarationsOf : Declarations → declarations.Declarations
 declarationsOf d = record {
-  width = λ f. getD (map (λ (w : Width). w .bits) (d .widths)) f 0;
+  width = λ f. getD (d .widths .bits) f 0;
   table = λ n. getD (map tableOf (vec-items (d .tables))) n undeclared;
 }
 

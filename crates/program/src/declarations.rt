@@ -1,6 +1,6 @@
 // What a program declares: the widths of its fields, and its tables.
 use crate::field::FieldNo;
-use crate::field::Width;
+use crate::field::Widths;
 
 // How a table picks among its entries. Ternary: the first whose values agree with the fields on all bits of its masks.
 #[derive(Clone, Copy)]
@@ -19,6 +19,6 @@ pub struct TableDeclaration {
 
 #[derive(Drop)]
 pub struct Declarations {
-    pub widths: [Width; 64],
+    pub widths: Widths,
     pub tables: Vec<TableDeclaration>,
 }
