@@ -11,6 +11,7 @@ use Rattle.std.proofs.shelf.Lists.{drop-more, drop-all}
 use Rattle.model.specs.Packet.{Packet}
 use Rattle.model.specs.Declarations.{Declarations}
 use Rattle.model.specs.Action.{act, acts}
+use Rattle.model.specs.Table as table
 use Rattle.model.specs.Table.{Pattern, fits, firstFit, agrees}
 use Rattle.program.specs.Stands.{numbersOf, actionOf}
 use Rattle.program.specs.declared.field.FieldNo.{FieldNo}
@@ -86,3 +87,9 @@ acts-more d xs k a p h is = rw (drop-more xs k a h, ← is) refl
 pub acts-end : (d : Declarations) (xs : List Action) (k : ℕ) (p : Packet) → length xs ≤ k → acts d (actionsOf (drop k xs)) p ≡ p
 unfolding acts
 acts-end d xs k p h = rw (drop-all k xs h) refl
+
+-- a table that looks at nothing takes its first entry
+pub first-of-none : (es : List table.Entry) (p : Packet) → firstFit [] es p ≡ zero
+unfolding firstFit fits
+first-of-none [] p = refl
+first-of-none (e ∷ es) p = refl

@@ -1,6 +1,6 @@
 // Tables: their entries, which of them a packet takes, and two versions of them without copies.
 pub mod entry;
 pub mod lookup;
-pub mod rows;
+mod rows;
 pub mod store;
 pub mod tables;

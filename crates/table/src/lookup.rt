@@ -6,9 +6,11 @@ ghost use Rattle.model.specs.Action.{acts as actsIn};
 ghost use Rattle.model.specs.Table.{fits as fitsIn, firstFit as firstFitIn, chosen as chosenIn, agrees as agreesIn, noEntry};
 ghost use lib.ListN.{getD, take};
 ghost use Rattle.program.specs.Stands.{over, numbersOf, tableOf, declarationsOf};
-ghost use Rattle.table.specs.Stands.{patternsOf, entryOf, entriesOf, actionsOf};
+ghost use Rattle.model.specs.Meaning.{apply as applyIn};
+ghost use Rattle.table.specs.Stands.{patternsOf, entryOf, entriesOf, actionsOf, tablesOf};
 use crate::entry::Actions;
 use crate::entry::Entry;
+use crate::store::Tables;
 use program::acting::act;
 use program::action::Action;
 use program::declarations::Declarations;
@@ -16,6 +18,7 @@ use program::declarations::MatchKind;
 use program::declarations::TableDeclaration;
 use program::field::FieldNo;
 use program::field::Fields;
+use program::field::TableNo;
 
 // The index of the entry that a table takes for these fields; where it takes none, the count of entries.
 pub fn chosen(table: &TableDeclaration, entries: &[Entry], fields: &Fields) -> usize
@@ -26,8 +29,27 @@ pub fn chosen(table: &TableDeclaration, entries: &[Entry], fields: &Fields) -> u
     }
 }
 
+// A table is applied to the fields: it looks at those of `seen`.
+pub fn apply(fields: &mut Fields, seen: &Fields, declarations: &Declarations, tables: &Tables, table: TableNo, newest: bool)
+    ensures { λ _. ⌜ ((base : Packet) → over (now (fields .exit)) base ≡ applyIn (declarationsOf (now (declarations .entry))) (tablesOf (now (tables .entry)) newest) (table .at) (over (now (seen .entry)) base) (over (now (fields .entry)) base)) ⌝ }
+{
+    let entries = tables.entries(table, newest);
+    let at = chosen_for(declarations, table, entries, seen);
+    act_by(fields, declarations, entries, at);
+}
+
+// The index of the entry that a table takes, by its number. A table that isn't declared looks at nothing, and takes its first entry.
+fn chosen_for(declarations: &Declarations, table: TableNo, entries: &[Entry], fields: &Fields) -> usize
+    ensures { λ r. ⌜ ((base : Packet) → r ≡ chosenIn (declarationsOf (now (declarations .entry)) .table (table .at)) (entriesOf (now (entries .entry))) (over (now (fields .entry)) base)) ⌝ }
+{
+    match declarations.tables.get(table.at as usize) {
+        Some(declared) => chosen(declared, entries, fields),
+        None => 0,
+    }
+}
+
 // What the entry at an index does to the fields; past the last entry, nothing.
-pub fn act_by(fields: &mut Fields, declarations: &Declarations, entries: &[Entry], at: usize)
+fn act_by(fields: &mut Fields, declarations: &Declarations, entries: &[Entry], at: usize)
     ensures { λ _. ⌜ ((base : Packet) → over (now (fields .exit)) base ≡ actsIn (declarationsOf (now (declarations .entry))) (getD (entriesOf (now (entries .entry))) at noEntry .actions) (over (now (fields .entry)) base)) ⌝ }
 {
     if at < entries.len() {

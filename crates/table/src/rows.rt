@@ -9,14 +9,14 @@ use std::alloc::Global;
 use std::mem::replace;
 
 #[derive(Drop)]
-pub struct Rows {
-    pub newest: Vec<Entry>,
-    pub before: Option<Vec<Entry>>,
+pub(crate) struct Rows {
+    pub(crate) newest: Vec<Entry>,
+    pub(crate) before: Option<Vec<Entry>>,
 }
 
 impl Rows {
     // No entries.
-    pub fn empty(heap: Global) -> Rows
+    pub(crate) fn empty(heap: Global) -> Rows
         ensures newest { λ r. ⌜ newestOf r ≡ [] ⌝ }
         ensures before { λ r. ⌜ beforeOf r ≡ [] ⌝ }
     {
@@ -24,7 +24,7 @@ impl Rows {
     }
 
     // The entries of the newest version, or of the one before.
-    pub fn of(&self, newest: bool) -> &[Entry]
+    pub(crate) fn of(&self, newest: bool) -> &[Entry]
         ensures { λ r. ⌜ now r ≡ cond newest (newestOf (now (self .entry))) (beforeOf (now (self .entry))) ⌝ }
     {
         if newest {
@@ -37,7 +37,7 @@ impl Rows {
     }
 
     // The version before the newest is forgotten: from now on it is the newest itself.
-    pub fn forget(&mut self)
+    pub(crate) fn forget(&mut self)
         ensures newest { λ _. ⌜ newestOf (now (self .exit)) ≡ newestOf (now (self .entry)) ⌝ }
         ensures before { λ _. ⌜ beforeOf (now (self .exit)) ≡ newestOf (now (self .entry)) ⌝ }
     {
@@ -45,7 +45,7 @@ impl Rows {
     }
 
     // New entries for the newest version; the one before keeps what it has.
-    pub fn give(&mut self, entries: Vec<Entry>)
+    pub(crate) fn give(&mut self, entries: Vec<Entry>)
         ensures newest { λ _. ⌜ newestOf (now (self .exit)) ≡ vec-items entries ⌝ }
         ensures before { λ _. ⌜ beforeOf (now (self .exit)) ≡ beforeOf (now (self .entry)) ⌝ }
     {

@@ -6,6 +6,6 @@ use crate::rows::Rows;
 // A program has at most 32 tables; those that it doesn't declare are never looked up.
 #[derive(Drop)]
 pub struct Tables {
-    pub all: Vec<Rows>,
+    pub(crate) all: Vec<Rows>,
     ghost each: { vec-len all ≡ 32 },
 }
