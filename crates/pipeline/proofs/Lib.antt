@@ -1,3 +1,5 @@
 pub mod Turns
 pub mod Store
 pub mod Shift
+pub mod Shifted
+pub mod OneStep

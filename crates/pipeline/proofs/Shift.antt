@@ -54,7 +54,7 @@ slot-same : (p : ℕ) (old new : ℕ → View) (x : Slot) → Elsewhere p old ne
 slot-same p old new (Free q) same ne = refl
 slot-same p old new (Holds q n) same ne = ap (λ (w : View). model.Holds (transit (w .packet) n) (w .version)) (same (q .at) ne)
 
-slots-same : (p : ℕ) (old new : ℕ → View) (xs : List Slot) → Elsewhere p old new → apart p (placesOf xs) ≡ true → slotsOf new xs ≡ slotsOf old xs
+pub slots-same : (p : ℕ) (old new : ℕ → View) (xs : List Slot) → Elsewhere p old new → apart p (placesOf xs) ≡ true → slotsOf new xs ≡ slotsOf old xs
 slots-same p old new [] same h = refl
 slots-same p old new (x ∷ xs) same h =
     let parts = and-parts (not (eqb (placeOf x) p)) (apart p (placesOf xs)) h in

@@ -7,7 +7,7 @@ use lib.ListN.{length, getD, take}
 use Rattle.std.specs.Of.Vec.{vec-items}
 use Rattle.model.specs.Packet as packet
 use Rattle.model.specs.Stage.{Transit}
-use Rattle.model.specs.Version.{Version}
+use Rattle.model.specs.Version.{Version, empty}
 use Rattle.model.specs.Pipeline as model
 use Rattle.program.specs.Stands.{over, declarationsOf, nodesOf}
 use Rattle.table.specs.Stands.{tablesOf}
@@ -73,3 +73,7 @@ slotsOf s xs = map (slotOf s) xs
 
 abbrev pub placesOf : List Slot → List ℕ
 placesOf xs = map placeOf xs
+
+-- a program with all tables empty
+abbrev pub emptyVersion : Loaded → Version
+emptyVersion l = record { declarations = declarationsOf (l .declarations); nodes = nodesOf (vec-items (l .nodes)); tables = empty }

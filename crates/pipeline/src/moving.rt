@@ -18,6 +18,7 @@ impl Slots {
     pub(crate) fn advance(mut self, incoming: Slot, store: &mut [Stored], loaded: &Loaded, tables: &Tables, newest: bool) -> (Slots, Slot)
         requires stored { ⌜ length (now store) ≡ 13 ⌝ }
         requires apart { ⌜ distinct (placeOf incoming ∷ placesOf (self .row)) ≡ true ⌝ }
+        ensures twelve { λ _. ⌜ length (self .row) ≡ 12 ⌝ }
         ensures places { λ r. ⌜ placesOf (r .0 .row) ++ (placeOf (r .1) ∷ []) ≡ placeOf incoming ∷ placesOf (self .row) ⌝ }
         ensures slots { λ r. ⌜ slotsOf (storeOf (now (store .exit))) (r .0 .row) ++ (slotOf (storeOf (now (store .exit))) (r .1) ∷ []) ≡ slotOf (storeOf (now (store .entry))) incoming ∷ worked (versionsOf (now (loaded .entry)) (now (tables .entry)) newest) 0 (slotsOf (storeOf (now (store .entry))) (self .row)) ⌝ }
     {
