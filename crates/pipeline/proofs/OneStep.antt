@@ -18,12 +18,11 @@ use Rattle.pipeline.proofs.Shifted.{shifted-row, shifted-last}
 module _ (vs : Bool → Version) (newest : Bool) (a : model.Arrival) (s0 s1 s2 : ℕ → View) (row moved : List Slot) (incoming last : Slot) (spare : ℕ)
     (some : 0 < length row) (differ : distinct (spare ∷ placesOf row) ≡ true) (comes : slotOf s1 incoming ≡ model.arriving newest a) (same : Elsewhere spare s0 s1)
     (steps : slotsOf s2 moved ++ (slotOf s2 last ∷ []) ≡ slotOf s1 incoming ∷ model.worked vs 0 (slotsOf s1 row)) where
-
   -- what comes has changed nothing for the slots
   steps-from : slotsOf s2 moved ++ (slotOf s2 last ∷ []) ≡ model.arriving newest a ∷ model.worked vs 0 (slotsOf s0 row)
   steps-from =
       steps ∙ ap₂ (λ (x : model.Slot Bool) (l : List (model.Slot Bool)). x ∷ model.worked vs 0 l) comes
-        (slots-same spare s0 s1 row same (and-parts (apart spare (placesOf row)) (distinct (placesOf row)) differ .0))
+      (slots-same spare s0 s1 row same (and-parts (apart spare (placesOf row)) (distinct (placesOf row)) differ .0))
 
   nonempty : 0 < length (model.worked vs 0 (slotsOf s0 row))
   nonempty = subst (λ (n : ℕ). 0 < n) (sym (worked-length vs 0 (slotsOf s0 row) ∙ length-map row (slotOf s0))) some
@@ -39,4 +38,4 @@ pub step-differ : (row moved : List Slot) (incoming last : Slot) (spare next : �
     placesOf moved ++ (placeOf last ∷ []) ≡ placeOf incoming ∷ placesOf row → distinct (spare ∷ placesOf row) ≡ true → distinct (next ∷ placesOf moved) ≡ true
 step-differ row moved incoming last spare next e f h d =
     ap (λ (p : ℕ). distinct (p ∷ placesOf moved)) f
-      ∙ distinct-turned (placesOf moved) (placeOf last) (ap distinct (h ∙ ap (λ (p : ℕ). p ∷ placesOf row) e) ∙ d)
+    ∙ distinct-turned (placesOf moved) (placeOf last) (ap distinct (h ∙ ap (λ (p : ℕ). p ∷ placesOf row) e) ∙ d)

@@ -59,7 +59,7 @@ slots-same p old new [] same h = refl
 slots-same p old new (x ∷ xs) same h =
     let parts = and-parts (not (eqb (placeOf x) p)) (apart p (placesOf xs)) h in
     ap₂ (λ (y : model.Slot Bool) (ys : List (model.Slot Bool)). y ∷ ys)
-      (slot-same p old new x same (eqb-false (placeOf x) p (not-true (eqb (placeOf x) p) (parts .0)))) (slots-same p old new xs same (parts .1))
+    (slot-same p old new x same (eqb-false (placeOf x) p (not-true (eqb (placeOf x) p) (parts .0)))) (slots-same p old new xs same (parts .1))
 
 -- front and carry have moved on, here is worked on, back is still to come
 turn : (vs : Bool → Version) (i : ℕ) (old new : ℕ → View) (front back : List Slot) (carry here next : Slot) →
@@ -70,9 +70,9 @@ turn : (vs : Bool → Version) (i : ℕ) (old new : ℕ → View) (front back : 
 unfolding model.worked
 turn vs i old new front back carry here next same works d =
     ap₂ (λ (xs ys : List (model.Slot Bool)). xs ++ ys)
-      (slots-same (placeOf here) old new (front ++ (carry ∷ [])) same (apart-before (placeOf here) (placesOf (front ++ (carry ∷ []))) (placesOf back) d))
-      (ap₂ (λ (y : model.Slot Bool) (ys : List (model.Slot Bool)). y ∷ ys) works
-        (ap (model.worked vs (i + 1)) (slots-same (placeOf here) old new back same (apart-behind (placeOf here) (placesOf (front ++ (carry ∷ []))) (placesOf back) d))))
+    (slots-same (placeOf here) old new (front ++ (carry ∷ [])) same (apart-before (placeOf here) (placesOf (front ++ (carry ∷ []))) (placesOf back) d))
+    (ap₂ (λ (y : model.Slot Bool) (ys : List (model.Slot Bool)). y ∷ ys) works
+    (ap (model.worked vs (i + 1)) (slots-same (placeOf here) old new back same (apart-behind (placeOf here) (placesOf (front ++ (carry ∷ []))) (placesOf back) d))))
 
 -- the places, in the order in which the slots come to stand
 abbrev pub order : ℕ → List Slot → Slot → List ℕ
@@ -83,12 +83,11 @@ abbrev pub state : (Bool → Version) → ℕ → (ℕ → View) → List Slot �
 state vs i s row carry = slotsOf s (take i row) ++ (slotOf s carry ∷ model.worked vs i (slotsOf s (drop i row)))
 
 module _ (i : ℕ) (row : List Slot) (carry here next : Slot) (within : i < length row) (is : here ≡ getD row i here) where
-
   split-order : order i row carry ≡ placesOf (take i row ++ (carry ∷ [])) ++ (placeOf here ∷ placesOf (drop (i + 1) row))
   split-order =
       ap (λ (l : List Slot). placesOf (take i row) ++ (placeOf carry ∷ placesOf l)) (drop-more row i here within ∙ ap (λ (x : Slot). x ∷ drop (i + 1) row) (sym is))
-        ∙ sym (append-assoc (placesOf (take i row)) (placeOf carry ∷ []) (placeOf here ∷ placesOf (drop (i + 1) row)))
-        ∙ ap (λ (l : List ℕ). l ++ (placeOf here ∷ placesOf (drop (i + 1) row))) (sym (map-append placeOf (take i row) (carry ∷ [])))
+      ∙ sym (append-assoc (placesOf (take i row)) (placeOf carry ∷ []) (placeOf here ∷ placesOf (drop (i + 1) row)))
+      ∙ ap (λ (l : List ℕ). l ++ (placeOf here ∷ placesOf (drop (i + 1) row))) (sym (map-append placeOf (take i row) (carry ∷ [])))
 
   back-is : drop (i + 1) (set row i carry) ≡ drop (i + 1) row
   back-is = drop-set-lt (i + 1) row i carry (omega arith)
@@ -96,18 +95,18 @@ module _ (i : ℕ) (row : List Slot) (carry here next : Slot) (within : i < leng
   pub order-turn : placeOf next ≡ placeOf here → order (i + 1) (set row i carry) next ≡ order i row carry
   order-turn e =
       ap₂ (λ (f b : List Slot). placesOf f ++ (placeOf next ∷ placesOf b)) (take-more-set row i carry within) back-is
-        ∙ ap (λ (p : ℕ). placesOf (take i row ++ (carry ∷ [])) ++ (p ∷ placesOf (drop (i + 1) row))) e
-        ∙ sym split-order
+      ∙ ap (λ (p : ℕ). placesOf (take i row ++ (carry ∷ [])) ++ (p ∷ placesOf (drop (i + 1) row))) e
+      ∙ sym split-order
 
   pub state-turn : (vs : Bool → Version) (old new : ℕ → View) → Elsewhere (placeOf here) old new → slotOf new next ≡ model.workedSlot vs i (slotOf old here) →
       distinct (order i row carry) ≡ true → state vs (i + 1) new (set row i carry) next ≡ state vs i old row carry
   state-turn vs old new same works d =
       ap₂ (λ (f b : List Slot). slotsOf new f ++ (slotOf new next ∷ model.worked vs (i + 1) (slotsOf new b))) (take-more-set row i carry within) back-is
-        ∙ turn vs i old new (take i row) (drop (i + 1) row) carry here next same works (subst (λ (l : List ℕ). distinct l ≡ true) split-order d)
-        ∙ ap (λ (l : List (model.Slot Bool)). l ++ model.worked vs i (slotOf old here ∷ slotsOf old (drop (i + 1) row))) (map-append (slotOf old) (take i row) (carry ∷ []))
-        ∙ append-assoc (slotsOf old (take i row)) (slotOf old carry ∷ []) (model.worked vs i (slotOf old here ∷ slotsOf old (drop (i + 1) row)))
-        ∙ ap (λ (l : List Slot). slotsOf old (take i row) ++ (slotOf old carry ∷ model.worked vs i (slotsOf old l)))
-          (sym (drop-more row i here within ∙ ap (λ (x : Slot). x ∷ drop (i + 1) row) (sym is)))
+      ∙ turn vs i old new (take i row) (drop (i + 1) row) carry here next same works (subst (λ (l : List ℕ). distinct l ≡ true) split-order d)
+      ∙ ap (λ (l : List (model.Slot Bool)). l ++ model.worked vs i (slotOf old here ∷ slotsOf old (drop (i + 1) row))) (map-append (slotOf old) (take i row) (carry ∷ []))
+      ∙ append-assoc (slotsOf old (take i row)) (slotOf old carry ∷ []) (model.worked vs i (slotOf old here ∷ slotsOf old (drop (i + 1) row)))
+      ∙ ap (λ (l : List Slot). slotsOf old (take i row) ++ (slotOf old carry ∷ model.worked vs i (slotsOf old l)))
+      (sym (drop-more row i here within ∙ ap (λ (x : Slot). x ∷ drop (i + 1) row) (sym is)))
 
 -- all have moved on
 pub order-end : (i : ℕ) (row : List Slot) (carry : Slot) → length row ≤ i → order i row carry ≡ placesOf row ++ (placeOf carry ∷ [])

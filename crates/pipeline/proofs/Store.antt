@@ -38,7 +38,7 @@ withFields s x = record { packet = record { fields = x; payload = s .packet .pay
 pub slot-worked : (l : Loaded) (t : Tables) (newest : Bool) (s node next : ℕ) (ss : List Stored) (place : Place) (d : Stored) (x : Fields) (own : Bool) →
     place .at < length ss → own ≡ Bool·beq (getD ss (place .at) d .version) newest →
     ((base : packet.Packet) → transit (over x base) next
-      ≡ onStage (length (vec-items (l .nodes))) (versionOf l t own) s (over (getD ss (place .at) d .packet .fields) base) (transit (over (getD ss (place .at) d .packet .fields) base) node)) →
+    ≡ onStage (length (vec-items (l .nodes))) (versionOf l t own) s (over (getD ss (place .at) d .packet .fields) base) (transit (over (getD ss (place .at) d .packet .fields) base) node)) →
     model.Holds (transit (storeOf (set ss (place .at) (withFields (getD ss (place .at) d) x)) (place .at) .packet) next) (storeOf (set ss (place .at) (withFields (getD ss (place .at) d) x)) (place .at) .version)
     ≡ model.workedSlot (versionsOf l t newest) s (model.Holds (transit (storeOf ss (place .at) .packet) node) (storeOf ss (place .at) .version))
 slot-worked l t newest s node next ss place d x own h mine done =
@@ -46,7 +46,7 @@ slot-worked l t newest s node next ss place d x own h mine done =
     let new = store-set-same ss (place .at) (withFields (getD ss (place .at) d) x) h in
     let was = store-at ss (place .at) d h in
     ap (λ (w : View). model.Holds (transit (w .packet) next) (w .version)) new
-      ∙ ap (λ (u : Transit). model.Holds u (getD ss (place .at) d .version)) (done (payloadOf (getD ss (place .at) d .packet .payload)))
-      ∙ ap₂ (λ (n : ℕ) (b : Bool). model.Holds (onStage n (versionOf l t b) s (packetOf (getD ss (place .at) d .packet)) (transit (packetOf (getD ss (place .at) d .packet)) node)) (getD ss (place .at) d .version))
-        (sym (length-map (vec-items (l .nodes)) nodeOf)) mine
-      ∙ ap (λ (w : View). model.workedSlot (versionsOf l t newest) s (model.Holds (transit (w .packet) node) (w .version))) (sym was)
+    ∙ ap (λ (u : Transit). model.Holds u (getD ss (place .at) d .version)) (done (payloadOf (getD ss (place .at) d .packet .payload)))
+    ∙ ap₂ (λ (n : ℕ) (b : Bool). model.Holds (onStage n (versionOf l t b) s (packetOf (getD ss (place .at) d .packet)) (transit (packetOf (getD ss (place .at) d .packet)) node)) (getD ss (place .at) d .version))
+    (sym (length-map (vec-items (l .nodes)) nodeOf)) mine
+    ∙ ap (λ (w : View). model.workedSlot (versionsOf l t newest) s (model.Holds (transit (w .packet) node) (w .version))) (sym was)

@@ -19,7 +19,8 @@ abbrev pub pipelineOf : Pipeline → model.Pipeline Bool
 pipelineOf p = record {
   slots = slotsOf (storeOf (vec-items (p .store))) (p .slots .row);
   versions = versionsOf (p .loaded) (p .tables) (p .newest);
-  newest = p .newest }
+  newest = p .newest;
+}
 
 -- the packet at the spare place
 abbrev pub spareOf : Pipeline → packet.Packet

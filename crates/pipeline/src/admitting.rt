@@ -14,7 +14,11 @@ pub(crate) fn admit(stored: &mut Stored, incoming: Incoming<'_>, version: bool)
     stored.packet.fields = fields;
     let length = incoming.payload.len();
     stored.packet.payload.present = incoming.present;
-    stored.packet.payload.bytes[0..length].copy_from_slice(incoming.payload);
+    stored
+        .packet
+        .payload
+        .bytes[0..length]
+        .copy_from_slice(incoming.payload);
     stored.packet.payload.length = length as u16;
     stored.version = version;
 }

@@ -28,21 +28,44 @@ pub(crate) fn works_on(node: Node, stage: u16) -> bool
 }
 
 // What a node does to a packet that is at it, and the index of the node at which the packet goes on. A table looks at the fields of `seen`.
-pub(crate) fn go(does: Does, at: u16, fields: &mut Fields, seen: &Fields, loaded: &Loaded, tables: &Tables, newest: bool) -> u16
+pub(crate) fn go(
+    does: Does,
+    at: u16,
+    fields: &mut Fields,
+    seen: &Fields,
+    loaded: &Loaded,
+    tables: &Tables,
+    newest: bool,
+) -> u16
     ensures { λ r. ⌜ ((base : Packet) → transit (over (now (fields .exit)) base) r ≡ moved (versionOf (now (loaded .entry)) (now (tables .entry)) newest) (over (now (seen .entry)) base) (doesOf does) (transit (over (now (fields .entry)) base) at)) ⌝ }
 {
     match does {
         Does::Halt => at,
         Does::Set(change) => {
-            act(fields, &loaded.declarations, Action::Set(change.field, change.operand));
+            act(
+                fields,
+                &loaded.declarations,
+                Action::Set(change.field, change.operand),
+            );
             change.next
         }
         Does::Add(change) => {
-            act(fields, &loaded.declarations, Action::Add(change.field, change.operand));
+            act(
+                fields,
+                &loaded.declarations,
+                Action::Add(change.field, change.operand),
+            );
             change.next
         }
         Does::Look(lookup) => {
-            apply(fields, seen, &loaded.declarations, tables, lookup.table, newest);
+            apply(
+                fields,
+                seen,
+                &loaded.declarations,
+                tables,
+                lookup.table,
+                newest,
+            );
             lookup.next
         }
         Does::Ask(question) => {

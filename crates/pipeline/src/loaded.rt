@@ -20,7 +20,10 @@ impl Loaded {
         ensures { λ r. ⌜ nodeOf r ≡ nodeAt (nodesOf (vec-items (now (self .entry) .nodes))) at ⌝ }
     {
         if at as usize >= self.nodes.len() {
-            return Node { stage: 0, does: Does::Halt };
+            return Node {
+                stage: 0,
+                does: Does::Halt,
+            };
         }
         self.nodes[at as usize]
     }

@@ -15,7 +15,14 @@ use table::store::Tables;
 
 impl Slots {
     // Each slot is worked on and moves on by one, what comes stands in slot 0, and the last is given out. No two share a place of the store.
-    pub(crate) fn advance(mut self, incoming: Slot, store: &mut [Stored], loaded: &Loaded, tables: &Tables, newest: bool) -> (Slots, Slot)
+    pub(crate) fn advance(
+        mut self,
+        incoming: Slot,
+        store: &mut [Stored],
+        loaded: &Loaded,
+        tables: &Tables,
+        newest: bool,
+    ) -> (Slots, Slot)
         requires stored { ⌜ length (now store) ≡ 13 ⌝ }
         requires apart { ⌜ distinct (placeOf incoming ∷ placesOf (self .row)) ≡ true ⌝ }
         ensures twelve { λ _. ⌜ length (self .row) ≡ 12 ⌝ }

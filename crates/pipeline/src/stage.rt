@@ -14,7 +14,14 @@ use table::store::Tables;
 
 // The nodes of a stage are done for a packet, one after the other, from the node at which it is; a table looks at the fields as they came to the stage.
 // Gives the index of the node at which the packet is then.
-pub fn on_stage(fields: &mut Fields, at: u16, stage: u16, loaded: &Loaded, tables: &Tables, newest: bool) -> u16
+pub fn on_stage(
+    fields: &mut Fields,
+    at: u16,
+    stage: u16,
+    loaded: &Loaded,
+    tables: &Tables,
+    newest: bool,
+) -> u16
     ensures { λ r. ⌜ ((base : Packet) → transit (over (now (fields .exit)) base) r ≡ onStage (length (vec-items (now (loaded .entry) .nodes))) (versionOf (now (loaded .entry)) (now (tables .entry)) newest) stage (over (now (fields .entry)) base) (transit (over (now (fields .entry)) base) at)) ⌝ }
 {
     let seen = *fields;

@@ -30,7 +30,14 @@ impl Pipeline {
         let tables = Tables::new(heap)?;
         let store = empty_store(heap)?;
         let slots = free_slots();
-        Ok(Pipeline { loaded, tables, slots, spare: Place { at: 12 }, store, newest: false })
+        Ok(Pipeline {
+            loaded,
+            tables,
+            slots,
+            spare: Place { at: 12 },
+            store,
+            newest: false,
+        })
     }
 }
 
@@ -41,18 +48,42 @@ fn free_slots() -> Slots
 {
     Slots {
         row: [
-            Slot::Free { place: Place { at: 0 } },
-            Slot::Free { place: Place { at: 1 } },
-            Slot::Free { place: Place { at: 2 } },
-            Slot::Free { place: Place { at: 3 } },
-            Slot::Free { place: Place { at: 4 } },
-            Slot::Free { place: Place { at: 5 } },
-            Slot::Free { place: Place { at: 6 } },
-            Slot::Free { place: Place { at: 7 } },
-            Slot::Free { place: Place { at: 8 } },
-            Slot::Free { place: Place { at: 9 } },
-            Slot::Free { place: Place { at: 10 } },
-            Slot::Free { place: Place { at: 11 } },
+            Slot::Free {
+                place: Place { at: 0 },
+            },
+            Slot::Free {
+                place: Place { at: 1 },
+            },
+            Slot::Free {
+                place: Place { at: 2 },
+            },
+            Slot::Free {
+                place: Place { at: 3 },
+            },
+            Slot::Free {
+                place: Place { at: 4 },
+            },
+            Slot::Free {
+                place: Place { at: 5 },
+            },
+            Slot::Free {
+                place: Place { at: 6 },
+            },
+            Slot::Free {
+                place: Place { at: 7 },
+            },
+            Slot::Free {
+                place: Place { at: 8 },
+            },
+            Slot::Free {
+                place: Place { at: 9 },
+            },
+            Slot::Free {
+                place: Place { at: 10 },
+            },
+            Slot::Free {
+                place: Place { at: 11 },
+            },
         ],
     }
 }
@@ -62,10 +93,17 @@ fn empty_store(heap: Global) -> Result<Vec<Stored>, AllocError>
     ensures { λ r. ⌜ made r (λ s. vec-len s ≡ 13) ⌝ }
 {
     let fields = Fields { of: [0; 64] };
-    let payload = Payload { present: 0, length: 0, bytes: [0; 2048] };
+    let payload = Payload {
+        present: 0,
+        length: 0,
+        bytes: [0; 2048],
+    };
     let mut store = Vec::with_capacity(heap, 13)?;
     for _place in 0..13usize {
-        store.push(Stored { packet: Packet { fields, payload }, version: false })?;
+        store.push(Stored {
+            packet: Packet { fields, payload },
+            version: false,
+        })?;
     }
     Ok(store)
 }

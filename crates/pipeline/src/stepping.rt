@@ -30,7 +30,13 @@ impl Pipeline {
         ensures leaves { λ r. ⌜ departedOf r (spareOf (now (self .exit))) ≡ leaves (pipelineOf (now (self .entry))) ⌝ }
     {
         let incoming = admitted(&mut self.store, self.spare, arrival, self.newest);
-        let (slots, last) = self.slots.advance(incoming, &mut self.store, &self.loaded, &self.tables, self.newest);
+        let (slots, last) = self.slots.advance(
+            incoming,
+            &mut self.store,
+            &self.loaded,
+            &self.tables,
+            self.newest,
+        );
         self.slots = slots;
         self.spare = place(last);
         left(last)
@@ -69,7 +75,10 @@ fn admitted(store: &mut [Stored], spare: Place, arrival: Arrival<'_>, newest: bo
         Arrival::Idle => Slot::Free { place: spare },
         Arrival::Comes(incoming) => {
             admit(&mut store[spare.at as usize], incoming, newest);
-            Slot::Holds { place: spare, node: 0 }
+            Slot::Holds {
+                place: spare,
+                node: 0,
+            }
         }
     }
 }

@@ -19,7 +19,14 @@ pub(crate) fn same_version(one: bool, other: bool) -> bool
 }
 
 // The nodes of the stage are done for the slot's packet, which goes by its own version, at its place in the store; all other places stay.
-pub(crate) fn work(slot: Slot, stage: u16, store: &mut [Stored], loaded: &Loaded, tables: &Tables, newest: bool) -> Slot
+pub(crate) fn work(
+    slot: Slot,
+    stage: u16,
+    store: &mut [Stored],
+    loaded: &Loaded,
+    tables: &Tables,
+    newest: bool,
+) -> Slot
     requires { ⌜ length (now store) ≡ 13 ⌝ }
     ensures place { λ r. ⌜ placeOf r ≡ placeOf slot ⌝ }
     ensures works { λ r. ⌜ slotOf (storeOf (now (store .exit))) r ≡ workedSlot (versionsOf (now (loaded .entry)) (now (tables .entry)) newest) stage (slotOf (storeOf (now (store .entry))) slot) ⌝ }

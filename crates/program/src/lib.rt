@@ -3,5 +3,6 @@ pub mod acting;
 pub mod action;
 pub mod declarations;
 pub mod field;
+pub mod headers;
 pub mod node;
 pub mod statement;

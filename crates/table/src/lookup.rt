@@ -30,7 +30,14 @@ pub fn chosen(table: &TableDeclaration, entries: &[Entry], fields: &Fields) -> u
 }
 
 // A table is applied to the fields: it looks at those of `seen`.
-pub fn apply(fields: &mut Fields, seen: &Fields, declarations: &Declarations, tables: &Tables, table: TableNo, newest: bool)
+pub fn apply(
+    fields: &mut Fields,
+    seen: &Fields,
+    declarations: &Declarations,
+    tables: &Tables,
+    table: TableNo,
+    newest: bool,
+)
     ensures { λ _. ⌜ ((base : Packet) → over (now (fields .exit)) base ≡ applyIn (declarationsOf (now (declarations .entry))) (tablesOf (now (tables .entry)) newest) (table .at) (over (now (seen .entry)) base) (over (now (fields .entry)) base)) ⌝ }
 {
     let entries = tables.entries(table, newest);
@@ -39,7 +46,12 @@ pub fn apply(fields: &mut Fields, seen: &Fields, declarations: &Declarations, ta
 }
 
 // The index of the entry that a table takes, by its number. A table that isn't declared looks at nothing, and takes its first entry.
-fn chosen_for(declarations: &Declarations, table: TableNo, entries: &[Entry], fields: &Fields) -> usize
+fn chosen_for(
+    declarations: &Declarations,
+    table: TableNo,
+    entries: &[Entry],
+    fields: &Fields,
+) -> usize
     ensures { λ r. ⌜ ((base : Packet) → r ≡ chosenIn (declarationsOf (now (declarations .entry)) .table (table .at)) (entriesOf (now (entries .entry))) (over (now (fields .entry)) base)) ⌝ }
 {
     match declarations.tables.get(table.at as usize) {

@@ -20,7 +20,10 @@ impl Rows {
         ensures newest { λ r. ⌜ newestOf r ≡ [] ⌝ }
         ensures before { λ r. ⌜ beforeOf r ≡ [] ⌝ }
     {
-        Rows { newest: Vec::new(heap), before: None }
+        Rows {
+            newest: Vec::new(heap),
+            before: None,
+        }
     }
 
     // The entries of the newest version, or of the one before.

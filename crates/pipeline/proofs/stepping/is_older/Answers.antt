@@ -13,5 +13,5 @@ pub returns-in-Holds : need.returns-in-Holds
 returns-in-Holds c =
     let within : c .in-Holds .place .at < length (c .args .store .now) = omega (arith, c .in-Holds .place .ok, c .pre) in
     ap not (c .same-version .ensures)
-      ∙ ap (λ (w : View). not (Bool·beq (c .args .newest) (w .version))) (sym (store-at (c .args .store .now) (c .in-Holds .place .at) (c .index-store-place .result) within))
-      ∙ ap (λ (x : Slot). olderSlot oneBit (c .args .newest) (slotOf (storeOf (c .args .store .now)) x)) (sym (c .in-Holds .is))
+    ∙ ap (λ (w : View). not (Bool·beq (c .args .newest) (w .version))) (sym (store-at (c .args .store .now) (c .in-Holds .place .at) (c .index-store-place .result) within))
+    ∙ ap (λ (x : Slot). olderSlot oneBit (c .args .newest) (slotOf (storeOf (c .args .store .now)) x)) (sym (c .in-Holds .is))

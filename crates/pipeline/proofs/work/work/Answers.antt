@@ -16,6 +16,7 @@ returns-in-Holds c =
       place = ap placeOf (sym (c .in-Holds .is));
       works = slot-worked (c .args .loaded .now) (c .args .tables .now) (c .args .newest) (c .args .stage) (c .in-Holds .node) (c .on-stage-next .result) (c .args .store .now) (c .in-Holds .place)
           (c .index-store-place .result) (c .on-stage-next .last .fields) (c .same-version-own .result) within (c .same-version-own .ensures) (c .on-stage-next .ensures)
-        ∙ ap (λ (x : Slot). workedSlot (versionsOf (c .args .loaded .now) (c .args .tables .now) (c .args .newest)) (c .args .stage) (slotOf (storeOf (c .args .store .now)) x)) (sym (c .in-Holds .is));
+          ∙ ap (λ (x : Slot). workedSlot (versionsOf (c .args .loaded .now) (c .args .tables .now) (c .args .newest)) (c .args .stage) (slotOf (storeOf (c .args .store .now)) x)) (sym (c .in-Holds .is));
       elsewhere = λ j ne. store-set-other (c .args .store .now) (c .in-Holds .place .at) j (withFields (getD (c .args .store .now) (c .in-Holds .place .at) (c .index-store-place .result)) (c .on-stage-next .last .fields))
-        (λ (e : j ≡ c .in-Holds .place .at). ne (e ∙ ap placeOf (sym (c .in-Holds .is)))) }
+          (λ (e : j ≡ c .in-Holds .place .at). ne (e ∙ ap placeOf (sym (c .in-Holds .is))));
+    }

@@ -11,12 +11,12 @@ use Rattle.table.proofs.lookup.act_by.Needs as need
 pub returns-then-at-entries : need.returns-then-at-entries
 returns-then-at-entries c base =
     c .act-all .ensures base
-      ∙ ap (λ (xs : List Action). acts (declarationsOf (c .args .declarations .now)) (actionsOf xs) (over (c .args .fields .now) base)) (c .listed .ensures)
-      ∙ ap (λ (e : Entry). acts (declarationsOf (c .args .declarations .now)) (e .actions) (over (c .args .fields .now) base))
-        (sym (getD-map entryOf (c .args .entries .now) (c .args .at) (c .index-entries-at .result) noEntry (c .if-at-entries .taken)))
+    ∙ ap (λ (xs : List Action). acts (declarationsOf (c .args .declarations .now)) (actionsOf xs) (over (c .args .fields .now) base)) (c .listed .ensures)
+    ∙ ap (λ (e : Entry). acts (declarationsOf (c .args .declarations .now)) (e .actions) (over (c .args .fields .now) base))
+    (sym (getD-map entryOf (c .args .entries .now) (c .args .at) (c .index-entries-at .result) noEntry (c .if-at-entries .taken)))
 
 pub returns-else-at-entries : need.returns-else-at-entries
 unfolding acts
 returns-else-at-entries c base =
     ap (λ (e : Entry). acts (declarationsOf (c .args .declarations .now)) (e .actions) (over (c .args .fields .now) base))
-      (sym (getD-past (entriesOf (c .args .entries .now)) (c .args .at) noEntry (rw length-map (c .if-at-entries .left))))
+    (sym (getD-past (entriesOf (c .args .entries .now)) (c .args .at) noEntry (rw length-map (c .if-at-entries .left))))

@@ -9,11 +9,14 @@ use Rattle.table.proofs.Fitting.{first-found, first-goes-on, first-end}
 use Rattle.table.proofs.lookup.first_fit.Needs as need
 
 pub entries-again : need.entries-again
-entries-again c = (c .entries .inv .0, λ base.
-    let on = first-goes-on (numbersOf (c .args .looks .now)) (c .args .entries .now) (c .entries .at) (c .index-entries-at .result) (over (c .args .fields .now) base)
-          (c .entries-test .taken) (c .index-entries-at .is) (sym (c .if-entry-fits .ensures tt base)) in
-    let inv = c .entries .inv .1 base in
-    omega (arith, on, inv))
+entries-again c = (
+  c .entries .inv .0,
+  λ base.
+      let on = first-goes-on (numbersOf (c .args .looks .now)) (c .args .entries .now) (c .entries .at) (c .index-entries-at .result) (over (c .args .fields .now) base)
+      (c .entries-test .taken) (c .index-entries-at .is) (sym (c .if-entry-fits .ensures tt base)) in
+      let inv = c .entries .inv .1 base in
+      omega (arith, on, inv),
+)
 
 pub returns-after-entries : need.returns-after-entries
 returns-after-entries c base =
@@ -25,6 +28,6 @@ returns-after-entries c base =
 pub returns-then-entry-fits : need.returns-then-entry-fits
 returns-then-entry-fits c base =
     let here = first-found (numbersOf (c .args .looks .now)) (c .args .entries .now) (c .entries .at) (c .index-entries-at .result) (over (c .args .fields .now) base)
-          (c .entries-test .taken) (c .index-entries-at .is) (sym (c .if-entry-fits .ensures tt base)) in
+    (c .entries-test .taken) (c .index-entries-at .is) (sym (c .if-entry-fits .ensures tt base)) in
     let inv = c .entries .inv .1 base in
     omega (arith, here, inv)

@@ -12,4 +12,4 @@ pub returns : need.returns
 returns c =
     let within : c .args .self .now .spare .at < length (vec-items (c .args .self .now .store)) = omega (arith, c .args .self .now .spare .ok, c .args .self .now .store .ok .0, c .args .self .now .stored) in
     ap (λ (s : Stored). packetOf (s .packet)) (c .index .ensures)
-      ∙ ap (λ (w : View). w .packet) (sym (store-at (vec-items (c .args .self .now .store)) (c .args .self .now .spare .at) (c .index .result .now) within))
+    ∙ ap (λ (w : View). w .packet) (sym (store-at (vec-items (c .args .self .now .store)) (c .args .self .now .spare .at) (c .index .result .now) within))

@@ -12,6 +12,6 @@ use Rattle.pipeline.proofs.pipeline.Pipeline.new.Needs as need
 pub returns : need.returns
 returns c =
     ap₂ {C = model.Pipeline Bool} (λ (l : List (model.Slot Bool)) (vs : Bool → Version). record { slots = l; versions = vs; newest = false })
-      (c .free-slots-slots .ensures .free (storeOf (vec-items (c .in-Continue-store .store))))
-      (fun-ext (λ v. ap {B = Version} (λ (t : Tables). record { declarations = declarationsOf (c .args .loaded .declarations); nodes = nodesOf (vec-items (c .args .loaded .nodes)); tables = t })
-        (c .in-Continue-tables .ensures tt (Bool·beq v false))))
+    (c .free-slots-slots .ensures .free (storeOf (vec-items (c .in-Continue-store .store))))
+    (fun-ext (λ v. ap {B = Version} (λ (t : Tables). record { declarations = declarationsOf (c .args .loaded .declarations); nodes = nodesOf (vec-items (c .args .loaded .nodes)); tables = t })
+    (c .in-Continue-tables .ensures tt (Bool·beq v false))))

@@ -10,4 +10,4 @@ Inv-loop-stage l =
     (length (l .self .row) ≡ 12) × (length (l .entry .self .row) ≡ 12) ×
     (order (l .stage) (l .self .row) (l .carry) ≡ order 0 (l .entry .self .row) (l .entry .carry)) ×
     (state (versionsOf (l .loaded) (l .tables) (l .newest)) (l .stage) (storeOf (l .store)) (l .self .row) (l .carry)
-      ≡ state (versionsOf (l .loaded) (l .tables) (l .newest)) 0 (storeOf (l .entry .store)) (l .entry .self .row) (l .entry .carry))
+    ≡ state (versionsOf (l .loaded) (l .tables) (l .newest)) 0 (storeOf (l .entry .store)) (l .entry .self .row) (l .entry .carry))

@@ -18,7 +18,8 @@ returns c =
     let look : List (List table.Entry) → table.Tables = λ l n. getD l n [] in
     record {
       newest = fun-ext (λ n.
-        replaced true (vec-items (c .args .self .now .all)) (c .args .table .at) (c .give .last .self) h n
+          replaced true (vec-items (c .args .self .now .all)) (c .args .table .at) (c .give .last .self) h n
           ∙ ap (λ (es : List Entry). cond (eqb n (c .args .table .at)) (entriesOf es) (getD (all true (vec-items (c .args .self .now .all))) n [])) (c .give .ensures .newest));
       before = ap look
-        (kept false (vec-items (c .args .self .now .all)) (c .args .table .at) (c .give .last .self) (c .index-mut .result .now) h (c .index-mut .ensures .value) (c .give .ensures .before)) }
+          (kept false (vec-items (c .args .self .now .all)) (c .args .table .at) (c .give .last .self) (c .index-mut .result .now) h (c .index-mut .ensures .value) (c .give .ensures .before));
+    }

@@ -10,4 +10,4 @@ abbrev pub Inv-loop-edit : given.InvT-loop-edit
 Inv-loop-edit l =
     (tablesOf (l .self) false ≡ tablesOf (l .entry .self) false) ×
     (editedAll (editsOf (into-iter-items (l .edit-iterator))) (tablesOf (l .self) true)
-      ≡ editedAll (editsOf (into-iter-items (l .entry .edit-iterator))) (tablesOf (l .entry .self) true))
+    ≡ editedAll (editsOf (into-iter-items (l .entry .edit-iterator))) (tablesOf (l .entry .self) true))
