@@ -1,6 +1,6 @@
 -- The store: what a write at one place makes of it, and the work of a stage on a slot's packet at its place.
 use mathlib.Core.Path.{_≡_, refl, sym, ap, ap₂, subst, _∙_}
-use mathlib.Core.Bool.{Bool, Bool·beq}
+use mathlib.Core.Bool.{Bool, true, false, Bool·beq}
 use mathlib.Core.List.{List, [], _∷_, map}
 use Prim.Native.Nat.{ℕ, _<_}
 use lib.ListN.{length, getD, set}
@@ -50,3 +50,9 @@ slot-worked l t newest s node next ss place d x own h mine done =
     ∙ ap₂ (λ (n : ℕ) (b : Bool). model.Holds (onStage n (versionOf l t b) s (packetOf (getD ss (place .at) d .packet)) (transit (packetOf (getD ss (place .at) d .packet)) node)) (getD ss (place .at) d .version))
     (sym (length-map (vec-items (l .nodes)) nodeOf)) mine
     ∙ ap (λ (w : View). model.workedSlot (versionsOf l t newest) s (model.Holds (transit (w .packet) node) (w .version))) (sym was)
+
+pub beq-turned : (a b : Bool) → Bool·beq a b ≡ Bool·beq b a
+beq-turned true true = refl
+beq-turned true false = refl
+beq-turned false true = refl
+beq-turned false false = refl

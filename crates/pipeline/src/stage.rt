@@ -24,6 +24,23 @@ pub fn on_stage(
 ) -> u16
     ensures { λ r. ⌜ ((base : Packet) → transit (over (now (fields .exit)) base) r ≡ onStage (length (vec-items (now (loaded .entry) .nodes))) (versionOf (now (loaded .entry)) (now (tables .entry)) newest) stage (over (now (fields .entry)) base) (transit (over (now (fields .entry)) base) at)) ⌝ }
 {
+    if !works_on(loaded.node_at(at), stage) {
+        return at;
+    }
+    turns(fields, at, stage, loaded, tables, newest)
+}
+
+// The same, with the fields as they came kept aside.
+fn turns(
+    fields: &mut Fields,
+    at: u16,
+    stage: u16,
+    loaded: &Loaded,
+    tables: &Tables,
+    newest: bool,
+) -> u16
+    ensures { λ r. ⌜ ((base : Packet) → transit (over (now (fields .exit)) base) r ≡ onStage (length (vec-items (now (loaded .entry) .nodes))) (versionOf (now (loaded .entry)) (now (tables .entry)) newest) stage (over (now (fields .entry)) base) (transit (over (now (fields .entry)) base) at)) ⌝ }
+{
     let seen = *fields;
     let mut at = at;
     for _turn in 0..loaded.nodes.len() {

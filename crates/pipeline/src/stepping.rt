@@ -20,7 +20,7 @@ use crate::packet::Stored;
 use crate::pipeline::Pipeline;
 use crate::slot::Place;
 use crate::slot::Slot;
-use crate::work::same_version;
+use crate::work::goes_by_newest;
 use table::entry::Edit;
 
 impl Pipeline {
@@ -123,6 +123,14 @@ fn is_older(slot: Slot, store: &[Stored], newest: bool) -> bool
 {
     match slot {
         Slot::Free { place: _ } => false,
-        Slot::Holds { place, node: _ } => !same_version(newest, store[place.at as usize].version),
+        Slot::Holds { place, node: _ } => is_older_at(place, store, newest),
     }
+}
+
+// Whether the packet at a place of the store has a version before the newest.
+fn is_older_at(place: Place, store: &[Stored], newest: bool) -> bool
+    requires { ⌜ length (now store) ≡ 13 ⌝ }
+    ensures { λ r. ⌜ r ≡ oneBit .older newest (storeOf (now (store .entry)) (place .at) .version) ⌝ }
+{
+    !goes_by_newest(&store[place.at as usize], newest)
 }

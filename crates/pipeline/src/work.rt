@@ -7,15 +7,30 @@ ghost use Rattle.model.specs.Pipeline.{workedSlot};
 ghost use Rattle.pipeline.specs.Stands.{versionsOf, storeOf, placeOf, slotOf};
 use crate::loaded::Loaded;
 use crate::packet::Stored;
+use crate::slot::Place;
 use crate::slot::Slot;
 use crate::stage::on_stage;
 use table::store::Tables;
 
+// A packet keeps its slot until it has passed all stages, also when nothing is left to do for it.
+fn kept(place: Place, node: u16) -> Slot
+    ensures { λ r. ⌜ r ≡ Slot.Holds place node ⌝ }
+{
+    Slot::Holds { place, node }
+}
+
 // Whether two versions, told apart by one bit, are the same.
-pub(crate) fn same_version(one: bool, other: bool) -> bool
+fn same_version(one: bool, other: bool) -> bool
     ensures { λ r. ⌜ r ≡ Bool·beq one other ⌝ }
 {
     if one { other } else { !other }
+}
+
+// Whether a packet goes by the newest version, or by the one before.
+pub(crate) fn goes_by_newest(stored: &Stored, newest: bool) -> bool
+    ensures { λ r. ⌜ r ≡ Bool·beq (now (stored .entry) .version) newest ⌝ }
+{
+    same_version(stored.version, newest)
 }
 
 // The nodes of the stage are done for the slot's packet, which goes by its own version, at its place in the store; all other places stay.
@@ -36,9 +51,9 @@ pub(crate) fn work(
         Slot::Free { place: _ } => slot,
         Slot::Holds { place, node } => {
             let stored = &mut store[place.at as usize];
-            let own = same_version(stored.version, newest);
+            let own = goes_by_newest(stored, newest);
             let next = on_stage(&mut stored.packet.fields, node, stage, loaded, tables, own);
-            Slot::Holds { place, node: next }
+            kept(place, next)
         }
     }
 }

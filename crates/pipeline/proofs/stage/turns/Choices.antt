@@ -6,7 +6,7 @@ use Rattle.model.specs.Packet.{Packet}
 use Rattle.model.specs.Stage.{onStage}
 use Rattle.program.specs.Stands.{over}
 use Rattle.pipeline.specs.Stands.{versionOf, transit}
-use Rattle.pipeline.proofs.stage.on_stage.Given as given
+use Rattle.pipeline.proofs.stage.turns.Given as given
 
 -- what is left of the turns makes of the packet now what all make of it as it came
 abbrev pub Inv-loop-turn : given.InvT-loop-turn
