@@ -21,5 +21,6 @@ pub mod UpdatesTaken
 pub mod TwoSuffice
 -- programs
 pub mod BlocksMean
+pub mod RowsUnfold
 pub mod UntouchedFields
 pub mod Worked

@@ -7,6 +7,7 @@ pub mod Table
 pub mod Paths
 pub mod Meaning
 pub mod Blocks
+pub mod Statements
 pub mod Node
 pub mod Version
 pub mod Stage

@@ -11,6 +11,7 @@ use Rattle.model.specs.Table.{Tables}
 use Rattle.model.specs.Paths.{Paths, Stop}
 use Rattle.model.specs.Meaning.{means}
 use Rattle.model.specs.Blocks.{Block, pathsOf, done}
+use Rattle.model.specs.Statements.{programOf, rowOf}
 use Rattle.model.specs.Node.{Node}
 use Rattle.model.specs.Version.{Version, Edit}
 use Rattle.model.specs.Stage.{Transit}
@@ -116,3 +117,7 @@ Untouched = (m : ℕ) → KeptFrom m
 -- 9. The worked cases come out as they should.
 abbrev pub WorkedCases : Type 0
 WorkedCases = map (λ (c : Case). c .computed) cases ≡ map (λ (c : Case). c .expected) cases
+
+-- 10. Blocks written as a row of statements stand for the tree of paths of the blocks.
+abbrev pub RowsUnfold : Type 0
+RowsUnfold = (end : ℕ) (b : Block) → programOf end (rowOf b) ≡ pathsOf b (Stop end)

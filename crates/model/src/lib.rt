@@ -1,7 +1,7 @@
 // The theorems over the model, each the contract of a function, so that the check asks for its proof.
 //
 // The model has no code to run: specs/ says what a switch program means, what the pipeline does, and what is promised of the two.
-ghost use Rattle.model.specs.Promises.{PlacementIsSound, StoppingIsTheRule, AsMeant, Alone, Updates, TwoVersionsSuffice, BlocksMean, Untouched, WorkedCases};
+ghost use Rattle.model.specs.Promises.{PlacementIsSound, StoppingIsTheRule, AsMeant, Alone, Updates, TwoVersionsSuffice, BlocksMean, Untouched, WorkedCases, RowsUnfold};
 
 // What the placement rule lays out is sound, and keeps the limits of a stage.
 pub fn placement_is_sound() -> u8
@@ -62,6 +62,13 @@ pub fn untouched() -> u8
 // The worked cases come out as they should.
 pub fn worked_cases() -> u8
     ensures { λ _. ⌜ WorkedCases ⌝ }
+{
+    0
+}
+
+// Blocks written as a row of statements stand for the paths of the blocks.
+pub fn rows_unfold() -> u8
+    ensures { λ _. ⌜ RowsUnfold ⌝ }
 {
     0
 }

@@ -15,23 +15,21 @@ use Rattle.pipeline.specs.declared.slot.Slot.{Slot}
 use Rattle.pipeline.proofs.Shift.{Elsewhere, slots-same, distinct-turned}
 use Rattle.pipeline.proofs.Shifted.{shifted-row, shifted-last}
 
-module _ (vs : Bool → Version) (newest : Bool) (a : model.Arrival) (s0 s1 s2 : ℕ → View) (row moved : List Slot) (incoming last : Slot) (spare : ℕ)
-    (some : 0 < length row) (differ : distinct (spare ∷ placesOf row) ≡ true) (comes : slotOf s1 incoming ≡ model.arriving newest a) (same : Elsewhere spare s0 s1)
-    (steps : slotsOf s2 moved ++ (slotOf s2 last ∷ []) ≡ slotOf s1 incoming ∷ model.worked vs 0 (slotsOf s1 row)) where
-  -- what comes has changed nothing for the slots
-  steps-from : slotsOf s2 moved ++ (slotOf s2 last ∷ []) ≡ model.arriving newest a ∷ model.worked vs 0 (slotsOf s0 row)
-  steps-from =
-      steps ∙ ap₂ (λ (x : model.Slot Bool) (l : List (model.Slot Bool)). x ∷ model.worked vs 0 l) comes
-      (slots-same spare s0 s1 row same (and-parts (apart spare (placesOf row)) (distinct (placesOf row)) differ .0))
+-- what comes to a place that no slot has changes nothing for the slots
+pub slots-keep : (s0 s1 : ℕ → View) (row : List Slot) (spare : ℕ) → distinct (spare ∷ placesOf row) ≡ true → Elsewhere spare s0 s1 → slotsOf s1 row ≡ slotsOf s0 row
+slots-keep s0 s1 row spare differ same = slots-same spare s0 s1 row same (and-parts (apart spare (placesOf row)) (distinct (placesOf row)) differ .0)
+
+module _ (vs : Bool → Version) (s0 s2 : ℕ → View) (row moved : List Slot) (incoming last : Slot) (some : 0 < length row)
+    (steps : slotsOf s2 moved ++ (slotOf s2 last ∷ []) ≡ slotOf s0 incoming ∷ model.worked vs 0 (slotsOf s0 row)) where
 
   nonempty : 0 < length (model.worked vs 0 (slotsOf s0 row))
   nonempty = subst (λ (n : ℕ). 0 < n) (sym (worked-length vs 0 (slotsOf s0 row) ∙ length-map row (slotOf s0))) some
 
-  pub step-row : slotsOf s2 moved ≡ model.arriving newest a ∷ model.butLast (model.worked vs 0 (slotsOf s0 row))
-  step-row = shifted-row (slotsOf s2 moved) (model.worked vs 0 (slotsOf s0 row)) (slotOf s2 last) (model.arriving newest a) nonempty steps-from
+  pub step-row : slotsOf s2 moved ≡ slotOf s0 incoming ∷ model.butLast (model.worked vs 0 (slotsOf s0 row))
+  step-row = shifted-row (slotsOf s2 moved) (model.worked vs 0 (slotsOf s0 row)) (slotOf s2 last) (slotOf s0 incoming) nonempty steps
 
   pub step-last : slotOf s2 last ≡ model.lastOf (model.worked vs 0 (slotsOf s0 row))
-  step-last = shifted-last (slotsOf s2 moved) (model.worked vs 0 (slotsOf s0 row)) (slotOf s2 last) (model.arriving newest a) nonempty steps-from
+  step-last = shifted-last (slotsOf s2 moved) (model.worked vs 0 (slotsOf s0 row)) (slotOf s2 last) (slotOf s0 incoming) nonempty steps
 
 -- the places of the slots and the spare one stay all different
 pub step-differ : (row moved : List Slot) (incoming last : Slot) (spare next : ℕ) → placeOf incoming ≡ spare → next ≡ placeOf last →

@@ -12,13 +12,6 @@ pub struct Incoming<'a> {
     ghost fits: { listLength (payload .now) ≤ 2048 },
 }
 
-// What a step brings.
-#[derive(Clone, Copy)]
-pub enum Arrival<'a> {
-    Idle,
-    Comes(Incoming<'a>),
-}
-
 // What a stored packet has besides its fields.
 #[derive(Clone, Copy)]
 pub struct Payload {

@@ -6,15 +6,15 @@ ghost use Prim.Native.Nat.{ℕ};
 ghost use lib.ListN.{length};
 ghost use Rattle.std.specs.Of.Vec.{vec-items, vec-len};
 ghost use Rattle.model.specs.Pipeline.{oneBit, advance as advanced, leaves, takes, event, anyOlder, olderSlot, arriving, departing};
-ghost use Rattle.model.specs.Pipeline.{Update};
+ghost use Rattle.model.specs.Pipeline.{Idle, Comes, Update};
 ghost use Rattle.model.specs.Answer.{answered};
 ghost use Rattle.table.specs.Stands.{editsOf};
-ghost use Rattle.pipeline.specs.Stands.{View, packetOf, storeOf, slotOf, slotsOf, placeOf};
-ghost use Rattle.pipeline.specs.Pipeline.{pipelineOf, arrivalOf, departedOf, answerOf, spareOf};
+ghost use Rattle.pipeline.specs.Stands.{View, packetOf, incomingOf, storeOf, slotOf, slotsOf, placeOf};
+ghost use Rattle.pipeline.specs.Pipeline.{pipelineOf, shifted, departedOf, answerOf, spareOf};
 use crate::admitting::admit;
 use crate::answer::Left;
 use crate::answer::Updated;
-use crate::packet::Arrival;
+use crate::packet::Incoming;
 use crate::packet::Packet;
 use crate::packet::Stored;
 use crate::pipeline::Pipeline;
@@ -24,19 +24,32 @@ use crate::work::goes_by_newest;
 use table::entry::Edit;
 
 impl Pipeline {
-    // One step: all stages work, the packet of slot 11 leaves, all others move on by one, and what comes stands in slot 0. Nothing is allocated.
-    pub fn step(&mut self, arrival: Arrival<'_>) -> Left
-        ensures does { λ r. ⌜ pipelineOf (now (self .exit)) ≡ advanced (arrivalOf (arrival .entry)) (pipelineOf (now (self .entry))) ⌝ }
+    // A step that brings a packet: all stages work, the packet of slot 11 leaves, all others move on by one, and the packet that comes stands in slot 0 at the first node, with the newest version.
+    // Nothing is allocated.
+    pub fn step(&mut self, incoming: Incoming<'_>) -> Left
+        ensures does { λ r. ⌜ pipelineOf (now (self .exit)) ≡ advanced (Comes (incomingOf (incoming .entry))) (pipelineOf (now (self .entry))) ⌝ }
         ensures leaves { λ r. ⌜ departedOf r (spareOf (now (self .exit))) ≡ leaves (pipelineOf (now (self .entry))) ⌝ }
     {
-        let incoming = admitted(&mut self.store, self.spare, arrival, self.newest);
-        let (slots, last) = self.slots.advance(
-            incoming,
-            &mut self.store,
-            &self.loaded,
-            &self.tables,
-            self.newest,
-        );
+        let slot = admitted(&mut self.store, self.spare, incoming, self.newest);
+        self.advance(slot)
+    }
+
+    // A step that brings nothing.
+    pub fn idle(&mut self) -> Left
+        ensures does { λ r. ⌜ pipelineOf (now (self .exit)) ≡ advanced Idle (pipelineOf (now (self .entry))) ⌝ }
+        ensures leaves { λ r. ⌜ departedOf r (spareOf (now (self .exit))) ≡ leaves (pipelineOf (now (self .entry))) ⌝ }
+    {
+        let slot = Slot::Free { place: self.spare };
+        self.advance(slot)
+    }
+
+    // All slots are worked on and move on by one; what comes stands at the spare place.
+    fn advance(&mut self, incoming: Slot) -> Left
+        requires { ⌜ placeOf incoming ≡ now self .spare .at ⌝ }
+        ensures does { λ r. ⌜ pipelineOf (now (self .exit)) ≡ shifted (slotOf (storeOf (vec-items (now (self .entry) .store))) incoming) (pipelineOf (now (self .entry))) ⌝ }
+        ensures leaves { λ r. ⌜ departedOf r (spareOf (now (self .exit))) ≡ leaves (pipelineOf (now (self .entry))) ⌝ }
+    {
+        let (slots, last) = self.slots.advance(incoming, &mut self.store, &self.loaded, &self.tables, self.newest);
         self.slots = slots;
         self.spare = place(last);
         left(last)
@@ -65,22 +78,14 @@ impl Pipeline {
 }
 
 // What comes, at the spare place of the store.
-fn admitted(store: &mut [Stored], spare: Place, arrival: Arrival<'_>, newest: bool) -> Slot
+fn admitted(store: &mut [Stored], spare: Place, incoming: Incoming<'_>, newest: bool) -> Slot
     requires { ⌜ length (now store) ≡ 13 ⌝ }
     ensures place { λ r. ⌜ placeOf r ≡ spare .at ⌝ }
-    ensures slot { λ r. ⌜ slotOf (storeOf (now (store .exit))) r ≡ arriving newest (arrivalOf (arrival .entry)) ⌝ }
+    ensures slot { λ r. ⌜ slotOf (storeOf (now (store .exit))) r ≡ arriving newest (Comes (incomingOf (incoming .entry))) ⌝ }
     ensures elsewhere { λ _. ⌜ ((j : ℕ) → (j ≡ spare .at → ⊥) → storeOf (now (store .exit)) j ≡ storeOf (now (store .entry)) j) ⌝ }
 {
-    match arrival {
-        Arrival::Idle => Slot::Free { place: spare },
-        Arrival::Comes(incoming) => {
-            admit(&mut store[spare.at as usize], incoming, newest);
-            Slot::Holds {
-                place: spare,
-                node: 0,
-            }
-        }
-    }
+    admit(&mut store[spare.at as usize], incoming, newest);
+    Slot::Holds { place: spare, node: 0 }
 }
 
 // The place of a slot.

@@ -8,6 +8,7 @@ use Rattle.std.specs.Of.Vec.{vec-items}
 use Rattle.model.specs.Packet as packet
 use Rattle.model.specs.Declarations as declarations
 use Rattle.model.specs.Action as action
+use Rattle.model.specs.Statements as statements
 use Rattle.model.specs.Node as node
 use Rattle.program.specs.declared.field.FieldNo.{FieldNo}
 use Rattle.program.specs.declared.field.Fields.{Fields}
@@ -21,6 +22,9 @@ use Rattle.program.specs.declared.declarations.MatchKind.{MatchKind}
 use Rattle.program.specs.declared.declarations.MatchKind.the-variants.{Ternary}
 use Rattle.program.specs.declared.declarations.TableDeclaration.{TableDeclaration}
 use Rattle.program.specs.declared.declarations.Declarations.{Declarations}
+use Rattle.program.specs.declared.statement.Kind.{Kind}
+use Rattle.program.specs.declared.statement.Kind.the-variants as kinds
+use Rattle.program.specs.declared.statement.Statement.{Statement}
 use Rattle.program.specs.declared.node.Does.{Does}
 use Rattle.program.specs.declared.node.Does.the-variants.{Halt, Set, Add, Look, Ask}
 use Rattle.program.specs.declared.node.Node.{Node}
@@ -59,6 +63,18 @@ declarationsOf d = record {
   width = λ f. getD (d .widths .bits) f 0;
   table = λ n. getD (map tableOf (vec-items (d .tables))) n undeclared;
 }
+
+abbrev pub statementKindOf : Kind → statements.Kind
+statementKindOf (kinds.Act a) = statements.Acts (actionOf a)
+statementKindOf (kinds.Apply t) = statements.Applies (t .at)
+statementKindOf (kinds.If c n) = statements.Forks (testOf c) n
+statementKindOf (kinds.Skip n) = statements.Skips n
+
+abbrev pub statementOf : Statement → statements.Statement
+statementOf s = statements.statement (s .offset) (statementKindOf (s .kind))
+
+abbrev pub statementsOf : List Statement → List statements.Statement
+statementsOf ss = map statementOf ss
 
 abbrev pub doesOf : Does → node.Does
 doesOf Halt = node.Halt
