@@ -202,6 +202,7 @@ two-suffice k v es =
     record {
       newest-or-before = w .two;
       same-output = twin-outputs k v es;
+      same-next = twin-leaves (run oneBit k v es) (run counted k v es) w;
       same-answer = twin-takes (run oneBit k v es) (run counted k v es) w;
       same-slots = w .slots;
       same-newest = w .newest;

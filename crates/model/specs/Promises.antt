@@ -95,6 +95,7 @@ Updates = (k : ℕ) (v : Version) → 0 < k → UpdatesTaken k v
 pub record TwoSuffice (k : ℕ) (v : Version) (es : List Event) : Type 0 where
   pub newest-or-before : EachSlot (NewestOrBefore (run counted k v es .newest)) (run counted k v es .slots)
   pub same-output : outputs oneBit k v es ≡ outputs counted k v es
+  pub same-next : leaves (run oneBit k v es) ≡ leaves (run counted k v es)
   pub same-answer : takes oneBit (run oneBit k v es) ≡ takes counted (run counted k v es)
   pub same-slots : run oneBit k v es .slots ≡ map bitSlot (run counted k v es .slots)
   pub same-newest : run oneBit k v es .newest ≡ bit (run counted k v es .newest)

@@ -1,3 +1,4 @@
 // A whole run of a program, for packets that are given by their fields.
 pub mod event;
-pub mod happening;
+mod happening;
+pub mod playing;
