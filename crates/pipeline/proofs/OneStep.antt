@@ -21,7 +21,6 @@ slots-keep s0 s1 row spare differ same = slots-same spare s0 s1 row same (and-pa
 
 module _ (vs : Bool → Version) (s0 s2 : ℕ → View) (row moved : List Slot) (incoming last : Slot) (some : 0 < length row)
     (steps : slotsOf s2 moved ++ (slotOf s2 last ∷ []) ≡ slotOf s0 incoming ∷ model.worked vs 0 (slotsOf s0 row)) where
-
   nonempty : 0 < length (model.worked vs 0 (slotsOf s0 row))
   nonempty = subst (λ (n : ℕ). 0 < n) (sym (worked-length vs 0 (slotsOf s0 row) ∙ length-map row (slotOf s0))) some
 

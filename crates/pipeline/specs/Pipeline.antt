@@ -29,7 +29,8 @@ abbrev pub shifted : model.Slot Bool → model.Pipeline Bool → model.Pipeline 
 shifted x c = record {
   slots = x ∷ model.butLast (model.worked (c .versions) 0 (c .slots));
   versions = c .versions;
-  newest = c .newest }
+  newest = c .newest;
+}
 
 -- what has left, if it is this packet
 abbrev pub departedOf : Left → packet.Packet → List packet.Departure

@@ -49,7 +49,13 @@ impl Pipeline {
         ensures does { λ r. ⌜ pipelineOf (now (self .exit)) ≡ shifted (slotOf (storeOf (vec-items (now (self .entry) .store))) incoming) (pipelineOf (now (self .entry))) ⌝ }
         ensures leaves { λ r. ⌜ departedOf r (spareOf (now (self .exit))) ≡ leaves (pipelineOf (now (self .entry))) ⌝ }
     {
-        let (slots, last) = self.slots.advance(incoming, &mut self.store, &self.loaded, &self.tables, self.newest);
+        let (slots, last) = self.slots.advance(
+            incoming,
+            &mut self.store,
+            &self.loaded,
+            &self.tables,
+            self.newest,
+        );
         self.slots = slots;
         self.spare = place(last);
         left(last)
@@ -85,7 +91,10 @@ fn admitted(store: &mut [Stored], spare: Place, incoming: Incoming<'_>, newest: 
     ensures elsewhere { λ _. ⌜ ((j : ℕ) → (j ≡ spare .at → ⊥) → storeOf (now (store .exit)) j ≡ storeOf (now (store .entry)) j) ⌝ }
 {
     admit(&mut store[spare.at as usize], incoming, newest);
-    Slot::Holds { place: spare, node: 0 }
+    Slot::Holds {
+        place: spare,
+        node: 0,
+    }
 }
 
 // The place of a slot.

@@ -45,7 +45,6 @@ placed-sound x ns e =
     subst (λ (l : List Node). Layout 12 l x) (sym is) (placement-is-sound .0 x .sound 12 inside)
 
 module _ (d : Declarations) (x : Paths) (ns : List Node) (lays : Layout 12 ns x) where
-
   next-promised : (before : List Event) → leaves (run oneBit 12 (version d ns empty) before) ≡ departures (take 1 (drop 11 (meant d x 12 empty before)))
   next-promised before = two-suffice 12 (version d ns empty) before .same-next ∙ as-meant d x 12 ns (lit< tt) lays empty before .after-k-steps
 
@@ -72,8 +71,8 @@ pub played-turn : (os : List outcome-type.Outcome) (o : outcome-type.Outcome) (c
 unfolding played
 played-turn os o c after e es is does =
     ap (λ (l : List Outcome). l ++ played after (eventsOf es)) (map-append outcomeOf os (o ∷ []))
-      ∙ append-assoc (outcomesOf os) (outcomeOf o ∷ []) (played after (eventsOf es))
-      ∙ ap₂ (λ (x : Outcome) (p : Pipeline Bool). outcomesOf os ++ (x ∷ played p (eventsOf es))) is does
+    ∙ append-assoc (outcomesOf os) (outcomeOf o ∷ []) (played after (eventsOf es))
+    ∙ ap₂ (λ (x : Outcome) (p : Pipeline Bool). outcomesOf os ++ (x ∷ played p (eventsOf es))) is does
 
 -- no event is left
 pub played-end : (os : List outcome-type.Outcome) (c : Pipeline Bool) → outcomesOf os ≡ outcomesOf os ++ played c (eventsOf [])

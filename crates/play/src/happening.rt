@@ -23,7 +23,11 @@ pub(crate) fn happen(pipeline: &mut Pipeline, event: Event) -> Outcome
             sent(pipeline, left)
         }
         Event::Comes(fields) => {
-            let left = pipeline.step(Incoming { fields: &fields, present: 0, payload: &[] });
+            let left = pipeline.step(Incoming {
+                fields: &fields,
+                present: 0,
+                payload: &[],
+            });
             sent(pipeline, left)
         }
         Event::Update(edits) => Outcome::Answered(pipeline.update(edits)),

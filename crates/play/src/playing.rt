@@ -23,13 +23,25 @@ use std::alloc::Global;
 
 // A program is placed on twelve stages and run, and each event has its outcome, in order. Every packet leaves after exactly twelve steps, as the program, done from top to bottom, means it
 // with the tables as they stood when it came; an update is refused exactly while a packet of a version before the newest is under way. A program that cannot be placed is refused.
-pub fn play(heap: Global, declarations: Declarations, statements: &[Statement], end: u32, events: Vec<Event>) -> Result<Vec<Outcome>, Fault>
+pub fn play(
+    heap: Global,
+    declarations: Declarations,
+    statements: &[Statement],
+    end: u32,
+    events: Vec<Event>,
+) -> Result<Vec<Outcome>, Fault>
     ensures { λ r. ⌜ Cases r
         (λ outcomes. outcomesOf (vec-items outcomes) ≡ promised (declarationsOf declarations) (programOf end (statementsOf (now (statements .entry)))) [] (eventsOf (vec-items events)))
         (λ fault. Refuses fault (placementOf 12 512 (programOf end (statementsOf (now (statements .entry)))))) ⌝ }
 {
     let nodes = place(heap, statements, end)?;
-    let Ok(mut pipeline) = Pipeline::new(heap, Loaded { declarations, nodes }) else {
+    let Ok(mut pipeline) = Pipeline::new(
+        heap,
+        Loaded {
+            declarations,
+            nodes,
+        },
+    ) else {
         return Err(Fault::NoMemory);
     };
     let mut outcomes = Vec::new(heap);

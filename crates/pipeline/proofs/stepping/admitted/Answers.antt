@@ -15,5 +15,6 @@ returns c =
     record {
       place = refl;
       slot = ap (λ (w : View). Holds (transit (w .packet) 0) (w .version)) (store-set-same (c .args .store .now) (c .args .spare .at) (c .admit .last .stored) within)
-        ∙ ap₂ (λ (p : Packet) (v : Bool). Holds (transit p 0) v) (c .admit .ensures .packet) (c .admit .ensures .version);
-      elsewhere = λ j ne. store-set-other (c .args .store .now) (c .args .spare .at) j (c .admit .last .stored) ne }
+          ∙ ap₂ (λ (p : Packet) (v : Bool). Holds (transit p 0) v) (c .admit .ensures .packet) (c .admit .ensures .version);
+      elsewhere = λ j ne. store-set-other (c .args .store .now) (c .args .spare .at) j (c .admit .last .stored) ne;
+    }
