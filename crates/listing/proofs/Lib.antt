@@ -1,0 +1,4 @@
+pub mod Lines
+pub mod Cuts
+pub mod Alike
+pub mod NeverAlike
