@@ -58,14 +58,8 @@ pub(crate) fn go(
             change.next
         }
         Does::Look(lookup) => {
-            apply(
-                fields,
-                seen,
-                &loaded.declarations,
-                tables,
-                lookup.table,
-                newest,
-            );
+            let declarations = &loaded.declarations;
+            apply(fields, seen, declarations, tables, lookup.table, newest);
             lookup.next
         }
         Does::Ask(question) => {

@@ -20,6 +20,7 @@ use crate::packet::Stored;
 use crate::pipeline::Pipeline;
 use crate::slot::Place;
 use crate::slot::Slot;
+use crate::slot::Slots;
 use crate::work::goes_by_newest;
 use table::entry::Edit;
 
@@ -74,7 +75,7 @@ impl Pipeline {
         ensures does { λ _. ⌜ pipelineOf (now (self .exit)) ≡ event oneBit (Update (editsOf (vec-items edits))) (pipelineOf (now (self .entry))) ⌝ }
         ensures answers { λ r. ⌜ answerOf r ≡ answered (takes oneBit (pipelineOf (now (self .entry)))) ⌝ }
     {
-        if any_older(&self.slots.row, &self.store, self.newest) {
+        if any_older(self.slots, &self.store, self.newest) {
             return Updated::OldPacketUnderWay;
         }
         self.tables.update(edits);
@@ -118,12 +119,12 @@ fn left(slot: Slot) -> Left
 }
 
 // Whether a packet in a slot has a version before the newest.
-fn any_older(slots: &[Slot], store: &[Stored], newest: bool) -> bool
+fn any_older(slots: Slots, store: &[Stored], newest: bool) -> bool
     requires { ⌜ length (now store) ≡ 13 ⌝ }
-    ensures { λ r. ⌜ r ≡ anyOlder oneBit newest (slotsOf (storeOf (now (store .entry))) (now (slots .entry))) ⌝ }
+    ensures { λ r. ⌜ r ≡ anyOlder oneBit newest (slotsOf (storeOf (now (store .entry))) (slots .row)) ⌝ }
 {
-    for k in 0..slots.len() {
-        if is_older(slots[k], store, newest) {
+    for k in 0..12usize {
+        if is_older(slots.row[k], store, newest) {
             return true;
         }
     }

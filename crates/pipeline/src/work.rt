@@ -13,10 +13,10 @@ use crate::stage::on_stage;
 use table::store::Tables;
 
 // A packet keeps its slot until it has passed all stages, also when nothing is left to do for it.
-fn kept(place: Place, node: u16) -> Slot
-    ensures { λ r. ⌜ r ≡ Slot.Holds place node ⌝ }
+fn kept(place: Place, at: u16) -> Slot
+    ensures { λ r. ⌜ r ≡ Slot.Holds place at ⌝ }
 {
-    Slot::Holds { place, node }
+    Slot::Holds { place, node: at }
 }
 
 // Whether two versions, told apart by one bit, are the same.

@@ -98,6 +98,7 @@ pub(crate) fn always(field: FieldNo, x: u32) -> Entry {
     Entry {
         values: [0; 4],
         masks: [0; 4],
+        looked: 1,
         actions: Actions {
             of: [action; 4],
             count: 1,

@@ -26,7 +26,7 @@ patternsOf (v ∷ vs) [] = []
 patternsOf (v ∷ vs) (m ∷ ms) = record { value = v; mask = m } ∷ patternsOf vs ms
 
 abbrev pub entryOf : Entry → table.Entry
-entryOf e = record { patterns = patternsOf (e .values) (e .masks); actions = actionsOf (take (e .actions .count) (e .actions .of)) }
+entryOf e = record { patterns = patternsOf (take (e .looked) (e .values)) (take (e .looked) (e .masks)); actions = actionsOf (take (e .actions .count) (e .actions .of)) }
 
 abbrev pub entriesOf : List Entry → List table.Entry
 entriesOf es = map entryOf es

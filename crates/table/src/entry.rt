@@ -11,12 +11,14 @@ pub struct Actions {
     ghost few: { count ≤ 4 },
 }
 
-// A value and a mask for each field that the table looks at, in that order, and what is done.
+// A value and a mask for each field that the table looks at, in that order, so many of them, and what is done.
 #[derive(Clone, Copy)]
 pub struct Entry {
     pub values: [u32; 4],
     pub masks: [u32; 4],
+    pub looked: u8,
     pub actions: Actions,
+    ghost few: { looked ≤ 4 },
 }
 
 // One edit of an update: all entries of a table are replaced.

@@ -116,7 +116,21 @@ fn first_fit(looks: &[FieldNo], entries: &[Entry], fields: &Fields) -> usize
 fn entry_fits(looks: &[FieldNo], entry: &Entry, fields: &Fields) -> bool
     ensures { λ r. ⌜ ((base : Packet) → r ≡ fitsIn (numbersOf (now (looks .entry))) (entryOf (now (entry .entry)) .patterns) (over (now (fields .entry)) base)) ⌝ }
 {
-    fits(looks, &entry.values, &entry.masks, fields)
+    fits(looks, values(entry), masks(entry), fields)
+}
+
+// The values of an entry.
+fn values(entry: &Entry) -> &[u32]
+    ensures { λ r. ⌜ now r ≡ take (now (entry .entry) .looked) (now (entry .entry) .values) ⌝ }
+{
+    &entry.values[0..entry.looked as usize]
+}
+
+// The masks of an entry.
+fn masks(entry: &Entry) -> &[u32]
+    ensures { λ r. ⌜ now r ≡ take (now (entry .entry) .looked) (now (entry .entry) .masks) ⌝ }
+{
+    &entry.masks[0..entry.looked as usize]
 }
 
 // The actions of an entry.

@@ -6,4 +6,4 @@ use Rattle.pipeline.proofs.stepping.any_older.Given as given
 
 -- what is left decides
 abbrev pub Inv-loop-k : given.InvT-loop-k
-Inv-loop-k l = anyOlder oneBit (l .newest) (slotsOf (storeOf (l .store)) (drop (l .k) (l .slots))) ≡ anyOlder oneBit (l .newest) (slotsOf (storeOf (l .store)) (l .slots))
+Inv-loop-k l = anyOlder oneBit (l .newest) (slotsOf (storeOf (l .store)) (drop (l .k) (l .slots .row))) ≡ anyOlder oneBit (l .newest) (slotsOf (storeOf (l .store)) (l .slots .row))
