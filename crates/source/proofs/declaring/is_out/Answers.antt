@@ -1,0 +1,6 @@
+use Rattle.std.proofs.shelf.Equals.{matches-decides}
+use Rattle.source.proofs.Finding.{same-test}
+use Rattle.source.proofs.declaring.is_out.Needs as need
+
+pub returns : need.returns
+returns c = same-test _ _ _ (matches-decides _ _ _ (c .eq .ensures))

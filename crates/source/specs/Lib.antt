@@ -1,0 +1,12 @@
+pub mod Faults
+pub mod Names
+pub mod State
+pub mod Steps
+pub mod Declaring
+pub mod Routing
+pub mod Tabling
+pub mod Bodies
+pub mod Using
+pub mod Reading
+pub mod Stands
+pub mod Does

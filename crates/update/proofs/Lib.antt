@@ -1,0 +1,4 @@
+pub mod Fronts
+pub mod Among
+pub mod Loops
+pub mod Declared
