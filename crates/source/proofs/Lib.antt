@@ -1,3 +1,4 @@
 pub mod Finding
 pub mod Giving
 pub mod Runs
+pub mod Deciding

@@ -10,3 +10,4 @@ pub mod Using
 pub mod Reading
 pub mod Stands
 pub mod Does
+pub mod Laws

@@ -4,6 +4,7 @@ pub mod block;
 mod bodies;
 mod declaring;
 pub mod fault;
+pub mod laws;
 mod looks;
 mod lookup;
 pub mod name;

@@ -1,0 +1,9 @@
+pub mod Numbers
+pub mod Presences
+pub mod Reading
+pub mod Writing
+pub mod Trip
+pub mod Lengths
+pub mod Standing
+pub mod Owning
+pub mod Chains

@@ -1,0 +1,9 @@
+pub mod Bits
+pub mod Header
+pub mod Contents
+pub mod Parsing
+pub mod Progress
+pub mod Deparsing
+pub mod Stands
+pub mod Laws
+pub mod Chain
