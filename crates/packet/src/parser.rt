@@ -49,7 +49,9 @@ pub fn parse<'a>(headers: &Headers, widths: &Widths, bytes: &'a [u8]) -> Result<
     };
     for number in 0..headers.all.len() {
         if comes(progress.next, number) {
-            read(&mut progress, number, &headers.all[number], widths, bytes)?;
+            let Ok(()) = read(&mut progress, number, &headers.all[number], widths, bytes) else {
+                return Err(Refused::EndsWithinHeader);
+            };
         }
     }
     let fields = progress.fields;
