@@ -1,4 +1,6 @@
 // Encoding updates.
+#![tactic(auto)]
+
 pub mod encoding;
 mod entry;
 pub mod laws;

@@ -1,4 +1,6 @@
 // The byte stream of a switch: its frames, and what is answered to them while no program is loaded.
+#![tactic(auto)]
+
 pub mod answer;
 pub mod front;
 pub mod kind;

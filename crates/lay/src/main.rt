@@ -1,4 +1,6 @@
 // Reads a source and prints its nodes and stages, or why it is refused.
+#![tactic(auto)]
+
 mod arguments;
 mod failure;
 mod naming;

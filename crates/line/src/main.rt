@@ -1,4 +1,6 @@
 // The switch as a program: frames in, frames out, as a stream.
+#![tactic(auto)]
+
 mod arguments;
 mod failure;
 mod stream;

@@ -1,5 +1,5 @@
 -- The pipeline: a slot for each stage, packets that follow one another through them, and versions that change under way.
-use Rattle.std.specs.Prelude.{ℕ, zero, suc, ◌+◌, Bool, true, false, cond, not, ◌||◌, List, [], ◌∷◌, ◌++◌, length, nat_lt}
+use Rattle.std.specs.Prelude.{ℕ, zero, suc, ◌+◌, Bool, true, false, cond, not, ◌||◌, List, [], ◌∷◌, ◌++◌, length, nat_eq, nat_lt}
 use Rattle.std.specs.Bool.{beq}
 use Rattle.model.specs.Packet.{Packet, Departure, departs}
 use Rattle.model.specs.Version.{Version, Edit, updated}
@@ -14,7 +14,7 @@ pub record Numbering (V : Type 0) : Type 0 where
 
 -- counted up without end: every version that ever was is kept
 abbrev pub counted : Numbering ℕ
-counted = record { first = 0; next = suc; same = eqb; older = λ newest v. nat_lt v newest }
+counted = record { first = 0; next = suc; same = nat_eq; older = λ newest v. nat_lt v newest }
 
 -- told apart by one bit: two versions are kept, and whatever is not the newest is older
 abbrev pub one_bit : Numbering Bool

@@ -1,6 +1,8 @@
 // The theorems over the model, each the contract of a function, so that the check asks for its proof.
 //
 // The model has no code to run: specs/ says what a switch program means, what the pipeline does, and what is promised of the two.
+#![tactic(auto)]
+
 ghost use Rattle.model.specs.Promises.{PlacementIsSound, StoppingIsTheRule, AsMeant, Alone, Updates, TwoVersionsSuffice, BlocksMean, Untouched, WorkedCases, RowsUnfold};
 
 // What the placement rule lays out is sound, and keeps the limits of a stage.

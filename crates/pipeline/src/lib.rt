@@ -1,4 +1,6 @@
 // The pipeline: twelve slots, packets that follow one another through them, and updates under way.
+#![tactic(auto)]
+
 mod admitting;
 pub mod answer;
 mod going;

@@ -1,4 +1,6 @@
 // Placement: from the statements of a program to its row of nodes, each on a stage of the pipeline.
+#![tactic(auto)]
+
 ghost use Rattle.std.specs.Prelude.{◌≡◌, MatchResult};
 ghost use Rattle.model.specs.Statements.{program_of};
 ghost use Rattle.model.specs.Stopping.{Placed, placement as placement_of, verdict};

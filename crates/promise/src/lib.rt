@@ -1,4 +1,6 @@
 // What is promised of the whole, each promise the contract of a function that returns nothing of note.
+#![tactic(auto)]
+
 ghost use Rattle.promise.specs.Accepting.{TakenIfPlaceable};
 ghost use Rattle.promise.specs.Others.{OthersUndisturbed};
 ghost use Rattle.promise.specs.Pieces.{NothingWhole, ServedInPieces};

@@ -1,4 +1,6 @@
 // Reading the source text of a switch.
+#![tactic(auto)]
+
 pub mod answering;
 pub mod block;
 mod bodies;

@@ -1,4 +1,6 @@
 // Sources with the code and the offset that each is answered by; 0 for one that is taken.
+#![tactic(auto)]
+
 use source::reading::read;
 use std::alloc::Global;
 

@@ -1,4 +1,6 @@
 // Shows the pipeline at work, event by event: a program with two tables in a row, packets that follow one another, and updates while they are under way.
+#![tactic(auto)]
+
 #[cfg(test)]
 mod cases;
 mod sample;

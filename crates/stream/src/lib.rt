@@ -1,4 +1,6 @@
 // A stream of bytes through a switch, as definitions and theorems.
+#![tactic(auto)]
+
 ghost use Rattle.stream.specs.Whole.{ServedAsMeant, FramesAsMeant};
 
 // Bytes in, bytes out: the switch writes what is meant.

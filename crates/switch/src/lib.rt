@@ -1,4 +1,6 @@
 // The switch: whole frames in, frames out.
+#![tactic(auto)]
+
 pub mod feeding;
 mod loading;
 pub mod running;

@@ -1,4 +1,6 @@
 // Tables: their entries, which of them a packet takes, and two versions of them without copies.
+#![tactic(auto)]
+
 pub mod entry;
 pub mod lookup;
 mod rows;

@@ -1,4 +1,6 @@
 // Updates: new entries for tables, as bytes.
+#![tactic(auto)]
+
 mod action;
 mod cursor;
 pub mod decoding;

@@ -5,8 +5,8 @@ use Rattle.frames.specs.Serving.{on_whole, on_front}
 use Rattle.frames.proofs.Parts.{whole_size}
 use Rattle.frames.proofs.step.Step.of.Goals as goal
 
-pub overflow-sub-bytes : goal.overflow-sub-bytes
-overflow-sub-bytes c =
+pub overflow_sub-bytes : goal.overflow_sub-bytes
+overflow_sub-bytes c =
     omega (arith, whole_size c.args.bytes.now c.in-Whole.kind c.in-Whole.body.now c.in-Whole.rest.now (sym c.in-Whole.ensures))
 
 pub returns-in-Whole : goal.returns-in-Whole
