@@ -60,7 +60,7 @@ def declared(path, text):
                 yield m[2]
 
 
-def turned(text, table, kept, count):
+def turned(text, table, kept, count, in_source):
     """The text with each word of the table turned."""
 
     def words(part):
@@ -70,7 +70,7 @@ def turned(text, table, kept, count):
             chain = chain + [m[0]] if dotted else [m[0]]
             made = len(chain) >= 2 and HEAD.match(chain[0]) and (len(chain) == 2 or (len(chain) == 3 and chain[1] in HOLDERS))
             new = table.get(m[0])
-            if new and m[0] not in kept and not made:
+            if new and m[0] not in kept and not made and not (in_source and m[0] in LEMMAS):
                 out.append(part[at : m.start()] + new)
                 at = m.end()
                 count[m[0]] += 1
@@ -136,7 +136,7 @@ def main():
         kept = {w for m in MADE.finditer(text) for w in re.findall(WORD, m[1])}
         if is_answers(path):
             kept |= {m[1] for m in re.finditer(rf"(?m)^(?:abbrev )?pub ({WORD}) : goal\.", text)}
-        new = turned(text, table, kept, count)
+        new = turned(text, table, kept, count, path.endswith(".rt"))
         if new != text and "--check" not in sys.argv and not bad:
             with open(path, "w", encoding="utf-8") as f:
                 f.write(new)

@@ -15,7 +15,7 @@ pub struct Loaded {
 
 impl Loaded {
     // The node at an index; behind the row there are only halts.
-    pub(crate) fn node_at_lem(&self, at: u16) -> Node
+    pub(crate) fn node_at(&self, at: u16) -> Node
         ensures { node_of result ≡ node_at (nodes_of self.now.nodes.items) at }
     {
         if at as usize >= self.nodes.len() {

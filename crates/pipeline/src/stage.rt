@@ -22,7 +22,7 @@ pub fn on_stage(
 ) -> u16
     ensures { (base : Packet) → transit (over fields.new base) result ≡ on_stage (length loaded.now.nodes.items) (version_of loaded.now tables.now newest) stage (over fields.old base) (transit (over fields.old base) at) }
 {
-    if !works_on(loaded.node_at_lem(at), stage) {
+    if !works_on(loaded.node_at(at), stage) {
         return at;
     }
     turns(fields, at, stage, loaded, tables, newest)
@@ -42,7 +42,7 @@ fn turns(
     let seen = *fields;
     let mut at = at;
     for _turn in 0..loaded.nodes.len() {
-        let node = loaded.node_at_lem(at);
+        let node = loaded.node_at(at);
         if !works_on(node, stage) {
             return at;
         }

@@ -25,7 +25,7 @@ pub(crate) fn first_with_room(row: &[Node], table: bool, from: u16) -> u16
 }
 
 // Whether a stage has room for one node more.
-fn has_room_lem(row: &[Node], table: bool, stage: u16) -> bool
+fn has_room(row: &[Node], table: bool, stage: u16) -> bool
     ensures { result ≡ has_room table (nodes_of row.now) stage }
 {
     nodes_on(row, stage) < MOST_NODES && (!table || tables_on(row, stage) < MOST_TABLES)

@@ -90,7 +90,7 @@ impl Seen {
         ))
     }
 
-    fn has_room_lem(&self, part: Part) -> bool
+    fn has_room(&self, part: Part) -> bool
         ensures { result ≡ has_room (part_of part) (seen_of self.now) }
     {
         match part {
@@ -104,7 +104,7 @@ impl Seen {
         ensures { result ≡ has_room_for (purpose_of purpose) (seen_of self.now) }
     {
         match purpose {
-            Purpose::Listed(part) => self.has_room_lem(part),
+            Purpose::Listed(part) => self.has_room(part),
             Purpose::By(_) => true,
             Purpose::Target { .. } => true,
             Purpose::Tested { .. } => true,
