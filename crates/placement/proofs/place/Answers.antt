@@ -28,10 +28,10 @@ returns-in-default c =
 
 pub resolved-requires : goal.resolved-requires
 resolved-requires c =
-    let stands = waits c.loop-pending.invariant c.step-at-step.result c.step-at-step.ensures (vec_items c.append.new.row) (lowest_of c.append.new.noted) c.in-ok-stage.ensures (vec_items c.pop.new.self) c.in-Some.branch c.in-Some.ensures.items in
-    let long = one_longer (vec_items c.append.new.row) (lowest_of c.append.new.noted) c.in-ok-stage.ensures in
+    let stands = waits c.loop-pending.invariant c.step_at-step.result c.step_at-step.ensures (vec_items c.append.new.row) (lowest_of c.append.new.noted) c.in_ok-stage.ensures (vec_items c.pop.new.self) c.in-Some.branch c.in-Some.ensures.items in
+    let long = one_longer (vec_items c.append.new.row) (lowest_of c.append.new.noted) c.in_ok-stage.ensures in
     let same = c.append.new.row.ok.0 in
-    (omega (arith, c.len-no-node.ensures), omega (arith, c.in-ok-stage.ensures.fits, c.len-no-node.ensures))
+    (omega (arith, c.len-no_node.ensures), omega (arith, c.in_ok-stage.ensures.fits, c.len-no_node.ensures))
 
 pub index-mut-requires : goal.index-mut-requires
 index-mut-requires c =
@@ -41,31 +41,31 @@ index-mut-requires c =
 
 pub loop-pending-smaller-in-End : goal.loop-pending-smaller-in-End
 loop-pending-smaller-in-End c =
-    let fewer = fewer_left (vec_items c.append.new.row) (lowest_of c.append.new.noted) c.in-ok-stage.ensures in
+    let fewer = fewer_left (vec_items c.append.new.row) (lowest_of c.append.new.noted) c.in_ok-stage.ensures in
     let long = length-set (vec_items c.append.new.row) c.in-Some.branch.node c.resolved.result in
     omega arith
 
 pub loop-pending-preserved-in-End : goal.loop-pending-preserved-in-End
 loop-pending-preserved-in-End c =
-    goes_back c.loop-pending.invariant c.step-at-step.result c.step-at-step.ensures (vec_items c.append.new.row) (lowest_of c.append.new.noted) c.in-ok-stage.ensures
-    (vec_items c.pop.new.self) c.in-Some.branch c.resolved.result c.len-no-node.result
-    c.in-End.is c.in-Some.ensures.items (c.len-no-node.ensures ∙ c.append.new.row.ok.0) c.resolved.ensures
+    goes_back c.loop-pending.invariant c.step_at-step.result c.step_at-step.ensures (vec_items c.append.new.row) (lowest_of c.append.new.noted) c.in_ok-stage.ensures
+    (vec_items c.pop.new.self) c.in-Some.branch c.resolved.result c.len-no_node.result
+    c.in-End.is c.in-Some.ensures.items (c.len-no_node.ensures ∙ c.append.new.row.ok.0) c.resolved.ensures
 
 pub loop-pending-smaller-in-Act : goal.loop-pending-smaller-in-Act
-loop-pending-smaller-in-Act c = fewer_left (vec_items c.append.new.row) (lowest_of c.append.new.noted) c.in-ok-stage.ensures
+loop-pending-smaller-in-Act c = fewer_left (vec_items c.append.new.row) (lowest_of c.append.new.noted) c.in_ok-stage.ensures
 
 pub loop-pending-preserved-in-Act : goal.loop-pending-preserved-in-Act
 loop-pending-preserved-in-Act c =
-    acts c.loop-pending.invariant c.step-at-step.result c.step-at-step.ensures (vec_items c.append.new.row) (lowest_of c.append.new.noted) c.in-ok-stage.ensures
-    c.in-Act.action c.in-Act.next c.behind-change-point.result c.in-Act.is c.behind-change-point.ensures
+    acts c.loop-pending.invariant c.step_at-step.result c.step_at-step.ensures (vec_items c.append.new.row) (lowest_of c.append.new.noted) c.in_ok-stage.ensures
+    c.in-Act.action c.in-Act.next c.behind_change-point.result c.in-Act.is c.behind_change-point.ensures
 
 pub loop-pending-smaller-in-Apply : goal.loop-pending-smaller-in-Apply
-loop-pending-smaller-in-Apply c = fewer_left (vec_items c.append.new.row) (lowest_of c.append.new.noted) c.in-ok-stage.ensures
+loop-pending-smaller-in-Apply c = fewer_left (vec_items c.append.new.row) (lowest_of c.append.new.noted) c.in_ok-stage.ensures
 
 pub loop-pending-preserved-in-Apply : goal.loop-pending-preserved-in-Apply
 loop-pending-preserved-in-Apply c =
-    applies c.loop-pending.invariant c.step-at-step.result c.step-at-step.ensures (vec_items c.append.new.row) (lowest_of c.append.new.noted) c.in-ok-stage.ensures
-    c.in-Apply.table c.in-Apply.next c.behind-change-point-in-Apply.result c.in-Apply.is c.behind-change-point-in-Apply.ensures
+    applies c.loop-pending.invariant c.step_at-step.result c.step_at-step.ensures (vec_items c.append.new.row) (lowest_of c.append.new.noted) c.in_ok-stage.ensures
+    c.in-Apply.table c.in-Apply.next c.behind_change-point-in-Apply.result c.in-Apply.is c.behind_change-point-in-Apply.ensures
 
 pub overflow-sub-node : goal.overflow-sub-node
 overflow-sub-node c =
@@ -74,14 +74,14 @@ overflow-sub-node c =
     omega (arith, c.len-node.ensures)
 
 pub loop-pending-smaller : goal.loop-pending-smaller
-loop-pending-smaller c = fewer_left (vec_items c.append.new.row) (lowest_of c.append.new.noted) c.in-ok-stage.ensures
+loop-pending-smaller c = fewer_left (vec_items c.append.new.row) (lowest_of c.append.new.noted) c.in_ok-stage.ensures
 
 pub loop-pending-preserved : goal.loop-pending-preserved
 loop-pending-preserved c =
-    let b : Branch = record { node = c.len-node.result - 1; test = c.in-If.test; no = c.behind-branch-no.result } in
-    let long = one_longer (vec_items c.append.new.row) (lowest_of c.append.new.noted) c.in-ok-stage.ensures in
+    let b : Branch = record { node = c.len-node.result - 1; test = c.in-If.test; no = c.behind_branch-no.result } in
+    let long = one_longer (vec_items c.append.new.row) (lowest_of c.append.new.noted) c.in_ok-stage.ensures in
     let same = c.append.new.row.ok.0 in
     let index : b.node ≡ length (vec_items c.loop-pending.row) = omega (arith, c.len-node.ensures) in
-    branches c.loop-pending.invariant c.step-at-step.result c.step-at-step.ensures (vec_items c.append.new.row) (lowest_of c.append.new.noted) c.in-ok-stage.ensures
+    branches c.loop-pending.invariant c.step_at-step.result c.step_at-step.ensures (vec_items c.append.new.row) (lowest_of c.append.new.noted) c.in_ok-stage.ensures
     c.in-If.yes c.in-If.no c.behind-branch-point.result b (vec_items c.push.new.self)
-    c.in-If.is index c.behind-branch-no.ensures c.behind-branch-point.ensures c.in-ok-push.ensures.items
+    c.in-If.is index c.behind_branch-no.ensures c.behind-branch-point.ensures c.in-ok-push.ensures.items

@@ -31,7 +31,7 @@ loop-field-init c =
           ∙ ap (λ (n : ℕ). write_fields W n c.args.header.now.from F) e,
       omega arith,
       omega arith,
-      (λ i. (c.type-inv.out i).fits),
+      (λ i. (c.ok.out i).fits),
       omega (arith, ap (λ (n : ℕ). bit_count W n c.args.header.now.from) e),
     )
 
@@ -60,7 +60,7 @@ loop-field-preserved c =
           ∙ c.loop-field.invariant.0,
       c.put-cursor.ensures.few,
       c.put-cursor.ensures.small,
-      (λ i. (c.type-inv.out i).fits),
+      (λ i. (c.type_inv.out i).fits),
       omega (arith, c.put-cursor.ensures.count, bit_count_more W end f c.loop-field-test.true, c.loop-field.invariant.4),
     )
 

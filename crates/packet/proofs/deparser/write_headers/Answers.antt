@@ -35,9 +35,9 @@ loop-number-preserved c =
       | then-has w ↦
           let h : Header = w.index-header.result.now in
           let n : ℕ = w.size.result in
-          let part : List ℕ = w.write-header.new.out in
+          let part : List ℕ = w.write_header.new.out in
           let out' : List ℕ = put_mid at (at + n - at) out part in
-          let whole : part ≡ write_header W (header_of h) F = w.write-header.ensures in
+          let whole : part ≡ write_header W (header_of h) F = w.write_header.ensures in
           let long : length part ≡ n = ap length whole ∙ length_header W (header_of h) F ∙ sym w.size.ensures.value in
           let there : length (write_headers W (map header_of (drop i hs)) i P F) ≡ size W (header_of h) + length rest = length_there W hs i i h P F below w.index-header.ensures (sym w.if-has.ensures.value) in
           let inside : at ≤ length out = omega (arith, c.loop-number.invariant.2) in (

@@ -25,7 +25,7 @@ returns c =
       stays = omega (arith, ap length rest, length-drop at bs, c.if-left-taken.false, c.requires.within);
       fits = omega (arith, ap length rest, c.if-left-taken.false, c.size-taken.ensures.value);
       reads = λ i. record {
-        fields = read_rest W c.args.header.now.fields c.args.header.now.from at bs (fields_of c.args.progress.now.fields) (fields_of c.read-fields.new.fields) c.read-fields.ensures i;
+        fields = read_rest W c.args.header.now.fields c.args.header.now.from at bs (fields_of c.args.progress.now.fields) (fields_of c.read_fields.new.fields) c.read_fields.ensures i;
         present = c.with-progress.ensures i;
         payload = left_behind bs at c.size-taken.result (size W (header_of c.args.header.now)) c.size-taken.ensures.value i;
       };

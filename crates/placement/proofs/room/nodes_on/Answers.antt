@@ -7,7 +7,7 @@ use Rattle.placement.proofs.room.nodes_on.Goals as goal
 
 pub loop-node-preserved : goal.loop-node-preserved
 loop-node-preserved c =
-    let one = counts c.from-count.result c.is-on.result _ c.from-count.ensures c.is-on.ensures in
+    let one = counts c.from-count.result c.is_on.result _ c.from-count.ensures c.is_on.ensures in
     let rest = nodes_more c.args.stage c.args.row.now c.loop-node.node-index c.node-item.result c.loop-node-test.true in
     let here = ap (λ (z : Node). node_here c.args.stage (node_of z)) c.node-item.is in
     (omega (arith, one.1), omega (arith, one.0))

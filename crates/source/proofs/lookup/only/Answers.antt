@@ -3,14 +3,14 @@ use Rattle.program.specs.declared.field.FieldNo.{FieldNo}
 use Rattle.source.specs.Names.{only_behind, fields_of, field_number}
 use Rattle.source.proofs.Finding.{only_miss, only_first, only_second, only_end}
 use Rattle.source.proofs.lookup.only.Goals as goal
-use Rattle.source.proofs.lookup.only.Goals.{then-is+else-is-some, else_is}
+use Rattle.source.proofs.lookup.only.Goals.{then-is+else-is_some, else-is}
 
 pub loop-k-preserved : goal.loop-k-preserved
 loop-k-preserved c = elim c.if-is.branch [
-  | then-is+else-is-some w ↦
+  | then-is+else-is_some w ↦
       ap (λ (o : Option FieldNo). only_behind (field_number o) (fields_of (drop (c.loop-k.k + 1) c.args.fields.now)) c.args.word.now) w.found-is
-      ∙ (only_first c.loop-k.found c.args.fields.now c.args.word.now c.loop-k.k c.index-fields-k.result (sym w.is-some.ensures ∙ w.if-is-some.false) c.loop-k-test.true c.index-fields-k.is w.if-is.ensures ∙ c.loop-k.invariant)
-  | else_is w ↦
+      ∙ (only_first c.loop-k.found c.args.fields.now c.args.word.now c.loop-k.k c.index-fields-k.result (sym w.is_some.ensures ∙ w.if-is-some.false) c.loop-k-test.true c.index-fields-k.is w.if-is.ensures ∙ c.loop-k.invariant)
+  | else-is w ↦
       ap (λ (o : Option FieldNo). only_behind (field_number o) (fields_of (drop (c.loop-k.k + 1) c.args.fields.now)) c.args.word.now) w.found-is
       ∙ (only_miss c.loop-k.found c.args.fields.now c.args.word.now c.loop-k.k c.index-fields-k.result c.loop-k-test.true c.index-fields-k.is w.if-is.ensures ∙ c.loop-k.invariant)
 ]

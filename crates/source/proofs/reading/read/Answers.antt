@@ -25,7 +25,7 @@ returns-then-is-end c =
 
 pub loop-seen-preserved : goal.loop-seen-preserved
 loop-seen-preserved c =
-    goes_on (phase_of c.loop-seen.phase) (phase_of c.in-ok-phase.phase) (seen_of c.loop-seen.seen) (seen_of c.step.new.self) (token_of c.next-x.result)
+    goes_on (phase_of c.loop-seen.phase) (phase_of c.in_ok-phase.phase) (seen_of c.loop-seen.seen) (seen_of c.step.new.self) (token_of c.next-x.result)
     (tokens_from c.loop-seen.scanner.at c.loop-seen.scanner.rest.now) (tokens_from c.next-x.new.self.at c.next-x.new.self.rest.now)
-    c.next-x.ensures c.in-ok-phase.ensures (sym c.if-is-end.ensures)
+    c.next-x.ensures c.in_ok-phase.ensures (sym c.if-is_end.ensures)
     ∙ c.loop-seen.invariant

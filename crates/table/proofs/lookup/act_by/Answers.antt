@@ -9,7 +9,7 @@ use Rattle.table.proofs.lookup.act_by.Goals as goal
 
 pub returns-then-at-entries : goal.returns-then-at-entries
 returns-then-at-entries c base =
-    c.act-all.ensures base
+    c.act_all.ensures base
     ∙ ap (λ (xs : List Action). acts (declarations_of c.args.declarations.now) (actions_of xs) (over c.args.fields.now base)) c.listed.ensures
     ∙ ap (λ (e : Entry). acts (declarations_of c.args.declarations.now) e.actions (over c.args.fields.now base))
     (sym (get_or-map entry_of c.args.entries.now c.args.at c.index-entries-at.result no_entry c.if-at-entries.true))

@@ -10,7 +10,7 @@ entries-preserved c = (
   c.entries.invariant.0,
   λ base.
       let on = first_goes_on (numbers_of c.args.looks.now) c.args.entries.now c.entries.at c.index-entries-at.result (over c.args.fields.now base)
-      c.entries-test.true c.index-entries-at.is (sym (c.if-entry-fits.ensures base)) in
+      c.entries-test.true c.index-entries-at.is (sym (c.if-entry_fits.ensures base)) in
       let inv = c.entries.invariant.1 base in
       omega (arith, on, inv),
 )
@@ -20,7 +20,7 @@ returns-after-entries c base =
     let none = first_end (numbers_of c.args.looks.now) c.args.entries.now c.entries.at (over c.args.fields.now base) c.entries-test.false in
     let inv = c.entries.invariant.1 base in
     let all : c.entries.found ≡ length c.args.entries.now = c.entries.invariant.0 in
-    omega (arith, none, inv, all, c.entries.auto.at_end)
+    omega (arith, none, inv, all, c.entries.auto.at-end)
 
 pub returns-then-entry-fits : goal.returns-then-entry-fits
 returns-then-entry-fits c base =

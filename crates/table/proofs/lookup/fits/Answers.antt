@@ -22,7 +22,7 @@ returns-then-not-agrees c base =
     let hm : c.loop-k.k < length c.args.masks.now = omega arith in
     sym (fits_fails c.args.looks.now c.args.values.now c.args.masks.now c.loop-k.k c.index-looks-k.result (over c.args.fields.now base)
     c.loop-k-test.true hv hm c.index-looks-k.is
-    (ap (agrees (record { value = get_or c.args.values.now c.loop-k.k 0; mask = get_or c.args.masks.now c.loop-k.k 0 })) (sym (c.field-at.ensures base))
+    (ap (agrees (record { value = get_or c.args.values.now c.loop-k.k 0; mask = get_or c.args.masks.now c.loop-k.k 0 })) (sym (c.field_at.ensures base))
     ∙ sym c.agrees.ensures ∙ c.if-not-agrees.true))
     ∙ c.loop-k.invariant base
 
@@ -32,7 +32,7 @@ loop-k-preserved c base =
     let hm : c.loop-k.k < length c.args.masks.now = omega arith in
     sym (fits_goes_on c.args.looks.now c.args.values.now c.args.masks.now c.loop-k.k c.index-looks-k.result (over c.args.fields.now base)
     c.loop-k-test.true hv hm c.index-looks-k.is
-    (ap (agrees (record { value = get_or c.args.values.now c.loop-k.k 0; mask = get_or c.args.masks.now c.loop-k.k 0 })) (sym (c.field-at.ensures base))
+    (ap (agrees (record { value = get_or c.args.values.now c.loop-k.k 0; mask = get_or c.args.masks.now c.loop-k.k 0 })) (sym (c.field_at.ensures base))
     ∙ sym c.agrees.ensures ∙ c.if-not-agrees.false))
     ∙ c.loop-k.invariant base
 

@@ -8,4 +8,4 @@ pub returns : goal.returns
 returns c =
     let d = seen_of c.args.self.now in
     ap (λ (xs : List Choice). with_routes (record { first = d.routes.first; by = d.routes.by; choices = xs }) d)
-    (pushed choice_of (vec_items c.args.self.now.routes.choices) (vec_items c.push.new.self) c.args.choice c.in-ok-push.ensures.items)
+    (pushed choice_of (vec_items c.args.self.now.routes.choices) (vec_items c.push.new.self) c.args.choice c.in_ok-push.ensures.items)

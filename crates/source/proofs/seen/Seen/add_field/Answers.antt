@@ -9,4 +9,4 @@ pub returns : goal.returns
 returns c =
     let d = seen_of c.args.self.now in
     ap (λ (xs : List Field). with_names (record { headers = d.names.headers; fields = xs; widths = d.names.widths; tables = d.names.tables }) d)
-    (pushed field_of (vec_items c.args.self.now.names.fields) (vec_items c.push.new.self) c.args.field c.in-ok-push.ensures.items)
+    (pushed field_of (vec_items c.args.self.now.names.fields) (vec_items c.push.new.self) c.args.field c.in_ok-push.ensures.items)

@@ -9,4 +9,4 @@ pub returns : goal.returns
 returns c =
     let d = seen_of c.args.self.now in
     ap (λ (xs : List Entry). with_names (record { headers = xs; fields = d.names.fields; widths = d.names.widths; tables = d.names.tables }) d)
-    (pushed header_of (vec_items c.args.self.now.names.headers) (vec_items c.push.new.self) c.args.header c.in-ok-push.ensures.items)
+    (pushed header_of (vec_items c.args.self.now.names.headers) (vec_items c.push.new.self) c.args.header c.in_ok-push.ensures.items)

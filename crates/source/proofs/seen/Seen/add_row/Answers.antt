@@ -8,4 +8,4 @@ pub returns : goal.returns
 returns c =
     let d = seen_of c.args.self.now in
     ap (λ (xs : List Row). with_body (record { rows = xs; blocks = d.body.blocks; applied = d.body.applied; begun = d.body.begun; end = d.body.end }) d)
-    (pushed row_of (vec_items c.args.self.now.body.rows) (vec_items c.push.new.self) c.args.row c.in-ok-push.ensures.items)
+    (pushed row_of (vec_items c.args.self.now.body.rows) (vec_items c.push.new.self) c.args.row c.in_ok-push.ensures.items)

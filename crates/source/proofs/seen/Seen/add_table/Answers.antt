@@ -9,4 +9,4 @@ pub returns : goal.returns
 returns c =
     let d = seen_of c.args.self.now in
     ap (λ (xs : List Entry). with_names (record { headers = d.names.headers; fields = d.names.fields; widths = d.names.widths; tables = xs }) d)
-    (pushed table_of (vec_items c.args.self.now.names.tables) (vec_items c.push.new.self) c.args.table c.in-ok-push.ensures.items)
+    (pushed table_of (vec_items c.args.self.now.names.tables) (vec_items c.push.new.self) c.args.table c.in_ok-push.ensures.items)

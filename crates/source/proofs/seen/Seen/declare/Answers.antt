@@ -19,7 +19,7 @@ returns c =
     let a : numbers_of (vec_items c.replace-looks.new.dest) ≡ [] = ap (λ (v : Vec FieldNo Global). numbers_of (vec_items v)) c.replace-looks.ensures.after ∙ ap numbers_of c.new.ensures.items in
     let b : numbers_of (vec_items c.replace-sets.new.dest) ≡ [] = ap (λ (v : Vec FieldNo Global). numbers_of (vec_items v)) c.replace-sets.ensures.after ∙ ap numbers_of c.new-2.ensures.items in
     let e : declared_of (vec_items c.push.new.self) ≡ before ++ table_of (made t.looks t.sets) ∷ [] =
-    pushed table_of (vec_items t.declared) (vec_items c.push.new.self) (made c.replace-looks.result c.replace-sets.result) c.in-ok-push.ensures.items
+    pushed table_of (vec_items t.declared) (vec_items c.push.new.self) (made c.replace-looks.result c.replace-sets.result) c.in_ok-push.ensures.items
     ∙ (ap (λ (l : Vec FieldNo Global). before ++ table_of (made l c.replace-sets.result) ∷ []) c.replace-looks.ensures.value
     ∙ ap (λ (s : Vec FieldNo Global). before ++ table_of (made t.looks s) ∷ []) c.replace-sets.ensures.value) in
     ap (λ (x : List ℕ). with_tables (record { looks = x; sets = numbers_of (vec_items c.replace-sets.new.dest); declared = declared_of (vec_items c.push.new.self) }) d) a

@@ -8,7 +8,7 @@ use Rattle.table.proofs.store.Tables.forget.Goals as goal
 pub loop-k-preserved : goal.loop-k-preserved
 loop-k-preserved c =
     let h : c.loop-k.k < length (vec_items c.loop-k.self.all) = omega (arith, c.loop-k.self.all.ok.0, c.loop-k.self.each, c.loop-k-test.true) in (
-      kept true (vec_items c.loop-k.self.all) c.loop-k.k c.forget.new.self c.index-mut.result.now h c.index-mut.ensures.value c.forget.ensures.newest ∙ c.loop-k.invariant.0,
+      kept true (vec_items c.loop-k.self.all) c.loop-k.k c.forget.new.self c.index_mut.result.now h c.index_mut.ensures.value c.forget.ensures.newest ∙ c.loop-k.invariant.0,
       same_more c.loop-k.k (vec_items c.loop-k.self.all) c.forget.new.self h (c.forget.ensures.before ∙ sym c.forget.ensures.newest) c.loop-k.invariant.1,
     )
 

@@ -15,5 +15,5 @@ returns c =
           replaced true (vec_items c.args.self.now.all) c.args.table.at c.give.new.self h n
           ∙ ap (λ (es : List Entry). cond (eqb n c.args.table.at) (entries_of es) (get_or (all true (vec_items c.args.self.now.all)) n [])) c.give.ensures.newest);
       before = ap look
-          (kept false (vec_items c.args.self.now.all) c.args.table.at c.give.new.self c.index-mut.result.now h c.index-mut.ensures.value c.give.ensures.before);
+          (kept false (vec_items c.args.self.now.all) c.args.table.at c.give.new.self c.index_mut.result.now h c.index_mut.ensures.value c.give.ensures.before);
     }

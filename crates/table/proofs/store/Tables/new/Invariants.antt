@@ -3,4 +3,4 @@ use Rattle.table.proofs.Stored.{Empty}
 use Rattle.table.proofs.store.Tables.new.Given as goal
 
 abbrev pub invariant-loop-table : goal.invariant-loop-table
-invariant-loop-table l = (vec_len l.all ≡ l.-table) × Empty (vec_items l.all)
+invariant-loop-table l = (vec_len l.all ≡ l._table) × Empty (vec_items l.all)

@@ -24,7 +24,7 @@ returns c =
     record {
       newest = ap (λ (gs : List Edit). edited_all (edits_of gs) (tables_of c.loop-edit.self true)) (sym none)
           ∙ c.loop-edit.invariant.1
-          ∙ ap (λ (gs : List Edit). edited_all (edits_of gs) (tables_of c.forget.new.self true)) c.into-iter-edit-iterator.ensures.into-iter-gives.0
+          ∙ ap (λ (gs : List Edit). edited_all (edits_of gs) (tables_of c.forget.new.self true)) c.into_iter-edit-iterator.ensures.into_iter_gives.0
           ∙ ap (edited_all (edits_of (vec_items c.args.edits))) (c.forget.ensures true);
       before = c.loop-edit.invariant.0 ∙ c.forget.ensures false;
     }
