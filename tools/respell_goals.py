@@ -12,7 +12,7 @@ import re
 import sys
 
 OWN = """overflow_add overflow_sub overflow_mul overflow_cast overflow_shl overflow_shr overflow_div overflow_neg slice_bounds in_ok in_err in_default
-invariant_of index_mut into_iter type_inv add_assign sub_assign deref_mut""".split()
+invariant_of from_residual index_mut into_iter type_inv add_assign sub_assign deref_mut""".split()
 WORD = r'[^\s(){}.;,@"«»]+'
 
 

@@ -14,16 +14,16 @@ pub loop-pending-init : goal.loop-pending-init
 loop-pending-init c =
     begun c.args.end (statements_of c.args.statements.now) (vec_items c.new-row.result) (vec_items c.new-pending.result) c.new-row.ensures.items c.new-pending.ensures.items
 
-pub returns-in-err-stage : goal.returns-in-err-stage
-returns-in-err-stage c =
-    let e = err_from_is_err_and c.from-residual.result c.from-residual.ensures.1 in
-    rw (e.1, e.2) (refuses c.loop-pending.invariant c.step-at-step.result c.step-at-step.ensures _ _ c.loop-pending.row.ok.0 c.in-err-stage.ensures)
+pub returns-in_err-stage : goal.returns-in_err-stage
+returns-in_err-stage c =
+    let e = err_from_is_err_and c.from_residual.result c.from_residual.ensures.1 in
+    rw (e.1, e.2) (refuses c.loop-pending.invariant c.step_at-step.result c.step_at-step.ensures _ _ c.loop-pending.row.ok.0 c.in_err-stage.ensures)
 
-pub returns-in-default : goal.returns-in-default
-returns-in-default c =
+pub returns-in_default : goal.returns-in_default
+returns-in_default c =
     let same = c.loop-pending.pending.ok.0 in
-    let none = nil_from_length (vec_items c.loop-pending.pending) (omega (arith, c.in-default.ensures.cases.0)) in
-    let whole = is_whole c.loop-pending.invariant c.step-at-step.result c.step-at-step.ensures (vec_items c.append.new.row) (lowest_of c.append.new.noted) c.in-ok-stage.ensures c.in-End.is none in
+    let none = nil_from_length (vec_items c.loop-pending.pending) (omega (arith, c.in_default.ensures.cases.0)) in
+    let whole = is_whole c.loop-pending.invariant c.step_at-step.result c.step_at-step.ensures (vec_items c.append.new.row) (lowest_of c.append.new.noted) c.in_ok-stage.ensures c.in-End.is none in
     subst (λ (z : Verdict). MatchResult c.settled.result (λ row. z ≡ Placed (nodes_of (vec_items row))) (λ f. Refuses f z)) whole c.settled.ensures
 
 pub resolved-requires : goal.resolved-requires
@@ -33,9 +33,9 @@ resolved-requires c =
     let same = c.append.new.row.ok.0 in
     (omega (arith, c.len-no_node.ensures), omega (arith, c.in_ok-stage.ensures.fits, c.len-no_node.ensures))
 
-pub index-mut-requires : goal.index-mut-requires
-index-mut-requires c =
-    let stands = waits c.loop-pending.invariant c.step-at-step.result c.step-at-step.ensures (vec_items c.append.new.row) (lowest_of c.append.new.noted) c.in-ok-stage.ensures (vec_items c.pop.new.self) c.in-Some.branch c.in-Some.ensures.items in
+pub index_mut-requires : goal.index_mut-requires
+index_mut-requires c =
+    let stands = waits c.loop-pending.invariant c.step_at-step.result c.step_at-step.ensures (vec_items c.append.new.row) (lowest_of c.append.new.noted) c.in_ok-stage.ensures (vec_items c.pop.new.self) c.in-Some.branch c.in-Some.ensures.items in
     let same = c.append.new.row.ok.0 in
     omega arith
 
@@ -67,9 +67,9 @@ loop-pending-preserved-in-Apply c =
     applies c.loop-pending.invariant c.step_at-step.result c.step_at-step.ensures (vec_items c.append.new.row) (lowest_of c.append.new.noted) c.in_ok-stage.ensures
     c.in-Apply.table c.in-Apply.next c.behind_change-point-in-Apply.result c.in-Apply.is c.behind_change-point-in-Apply.ensures
 
-pub overflow-sub-node : goal.overflow-sub-node
-overflow-sub-node c =
-    let long = one_longer (vec_items c.append.new.row) (lowest_of c.append.new.noted) c.in-ok-stage.ensures in
+pub overflow_sub-node : goal.overflow_sub-node
+overflow_sub-node c =
+    let long = one_longer (vec_items c.append.new.row) (lowest_of c.append.new.noted) c.in_ok-stage.ensures in
     let same = c.append.new.row.ok.0 in
     omega (arith, c.len-node.ensures)
 
@@ -83,5 +83,5 @@ loop-pending-preserved c =
     let same = c.append.new.row.ok.0 in
     let index : b.node ≡ length (vec_items c.loop-pending.row) = omega (arith, c.len-node.ensures) in
     branches c.loop-pending.invariant c.step_at-step.result c.step_at-step.ensures (vec_items c.append.new.row) (lowest_of c.append.new.noted) c.in_ok-stage.ensures
-    c.in-If.yes c.in-If.no c.behind-branch-point.result b (vec_items c.push.new.self)
-    c.in-If.is index c.behind_branch-no.ensures c.behind-branch-point.ensures c.in-ok-push.ensures.items
+    c.in-If.yes c.in-If.no c.behind_branch-point.result b (vec_items c.push.new.self)
+    c.in-If.is index c.behind_branch-no.ensures c.behind_branch-point.ensures c.in_ok-push.ensures.items

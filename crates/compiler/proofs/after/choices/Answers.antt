@@ -17,7 +17,7 @@ loop-k-preserved c =
           rw w.choices-is (picked hs c.args.number c.args.chosen.now c.loop-k.k c.index-chosen-k.result
           (vec_items c.loop-k.choices) (vec_items w.push.new.self) (record { value = c.index-chosen-k.result.value; next = w.follow.result }) all
           c.loop-k-test.true c.index-chosen-k.is w.if-choice-number.true
-          (ap (λ (n : packet.Next). record { value = c.index-chosen-k.result.value; next = n }) w.follow.ensures) w.in-ok-push.ensures.items c.loop-k.invariant)
+          (ap (λ (n : packet.Next). record { value = c.index-chosen-k.result.value; next = n }) w.follow.ensures) w.in_ok-push.ensures.items c.loop-k.invariant)
       | else-choice-number w ↦
           rw w.choices-is (passed hs c.args.number c.args.chosen.now c.loop-k.k c.index-chosen-k.result
           (vec_items c.loop-k.choices) all c.loop-k-test.true c.index-chosen-k.is w.if-choice-number.false c.loop-k.invariant)

@@ -14,4 +14,4 @@ returns c =
     rw count
     (then (vec_items c.args.out.now) (vec_items c.patterns.new.out) (vec_items c.actions.new.out)
     (patterns_bytes (patterns_of (take c.args.entry.looked c.args.entry.values) (take c.args.entry.looked c.args.entry.masks)))
-    (c.args.entry.actions.count ∷ actions_bytes (actions_of (take c.args.entry.actions.count c.args.entry.actions.of))) c.actions.result c.in-ok-patterns.ensures c.actions.ensures)
+    (c.args.entry.actions.count ∷ actions_bytes (actions_of (take c.args.entry.actions.count c.args.entry.actions.of))) c.actions.result c.in_ok-patterns.ensures c.actions.ensures)

@@ -9,6 +9,6 @@ returns-then-at-names c = sym (get_or_past (texts_of c.args.names.now) c.args.at
 
 pub returns : goal.returns
 returns c =
-    c.as-str.ensures.value
+    c.as_str.ensures.value
     ∙ ap (λ (s : String Global). string_bytes s) c.index-names-at.is
     ∙ sym (get_or-map (λ (s : String Global). string_bytes s) c.args.names.now c.args.at c.index-names-at.result [] c.if-at-names.false)

@@ -7,13 +7,13 @@ use Rattle.packet.proofs.bits.joined.Goals as goal
 pub loop-byte-init : goal.loop-byte-init
 loop-byte-init c = sym number_of_none
 
-pub overflow-mul-number : goal.overflow-mul-number
-overflow-mul-number c =
+pub overflow_mul-number : goal.overflow_mul-number
+overflow_mul-number c =
     let short : length (take c.loop-byte.byte-index c.args.bytes.now) ≤ 4 = omega (arith, length-take-le c.loop-byte.byte-index c.args.bytes.now (omega arith)) in
     omega (arith, c.loop-byte.invariant, number_small (take c.loop-byte.byte-index c.args.bytes.now) short)
 
-pub overflow-add-number : goal.overflow-add-number
-overflow-add-number c =
+pub overflow_add-number : goal.overflow_add-number
+overflow_add-number c =
     let short : length (take c.loop-byte.byte-index c.args.bytes.now) ≤ 4 = omega (arith, length-take-le c.loop-byte.byte-index c.args.bytes.now (omega arith)) in
     let byte : get_or c.args.bytes.now c.loop-byte.byte-index 0 < 256 = omega arith in
     omega (arith, c.loop-byte.invariant, number_small (take c.loop-byte.byte-index c.args.bytes.now) short)

@@ -15,8 +15,8 @@ loop-held-init c =
       refl,
     )
 
-pub overflow-cast-out-in-loop-held : goal.overflow-cast-out-in-loop-held
-overflow-cast-out-in-loop-held c =
+pub overflow_cast-out-in-loop-held : goal.overflow_cast-out-in-loop-held
+overflow_cast-out-in-loop-held c =
     let k : ℕ = c.loop-held.held - 8 in
     let e : c.loop-held.held ≡ 8 + k = omega (arith, c.loop-held-test.true) in
     let P : ℕ → Type 0 = λ n. c.loop-held.waiting < 2 ^ n in

@@ -64,8 +64,8 @@ loop-field-preserved c =
       omega (arith, c.put-cursor.ensures.count, bit_count_more W end f c.loop-field-test.true, c.loop-field.invariant.4),
     )
 
-pub overflow-cast-out-then-cursor-gt0 : goal.overflow-cast-out-then-cursor-gt0
-overflow-cast-out-then-cursor-gt0 c =
+pub overflow_cast-out-then-cursor-gt0 : goal.overflow_cast-out-then-cursor-gt0
+overflow_cast-out-then-cursor-gt0 c =
     let k : ℕ = 8 - c.loop-field.cursor.held in
     let e : c.loop-field.cursor.held + k ≡ 8 = omega (arith, c.loop-field.invariant.1) in
     let P : ℕ → Type 0 = λ n. c.loop-field.cursor.waiting * 2 ^ k < 2 ^ n in

@@ -11,8 +11,8 @@ use Rattle.packet.proofs.Writing.{headers_there, headers_absent, headers_end, le
 use Rattle.packet.proofs.deparser.write_headers.Goals as goal
 use Rattle.packet.proofs.deparser.write_headers.Goals.{then-has, else-has}
 
-pub slice-bounds-write-header-end : goal.slice-bounds-write-header-end
-slice-bounds-write-header-end c =
+pub slice_bounds-write_header-end : goal.slice_bounds-write_header-end
+slice_bounds-write_header-end c =
     let W : Widths = widths_of c.args.widths.now in
     let hs : List Header = vec_items c.args.headers.now.all in
     let i : ℕ = c.loop-number.number in

@@ -28,8 +28,8 @@ pub loop-number-init : goal.loop-number-init
 loop-number-init c =
     (ap (parse_from (widths_of c.args.widths.now) (headers_of c.args.headers.now) 0 (Then c.args.headers.now.first.at)) (start c.args.bytes.now), omega arith)
 
-pub returns-in-default : goal.returns-in-default
-returns-in-default c =
+pub returns-in_default : goal.returns-in_default
+returns-in_default c =
     let W : Widths = widths_of c.args.widths.now in
     let hs : List Header = vec_items c.args.headers.now.all in
     let i : ℕ = c.loop-number.number in
@@ -38,7 +38,7 @@ returns-in-default c =
     let all : parse W (headers_of c.args.headers.now) c.args.headers.now.first.at c.args.bytes.now ≡ Err EndsWithinHeader =
     short W c.args.bytes.now (parse_from W (headers_of c.args.headers.now) 0 (Then c.args.headers.now.first.at) (unread c.args.bytes.now)) few
     ∙ sym c.loop-number.invariant.0
-    ∙ parse_refuses W hs i c.index.result.now (next_of c.loop-number.progress.next) (reached c.loop-number.progress c.args.bytes.now) below c.index.ensures (sym c.if-comes.ensures.value) c.in-default.ensures.fits.1 in
+    ∙ parse_refuses W hs i c.index.result.now (next_of c.loop-number.progress.next) (reached c.loop-number.progress c.args.bytes.now) below c.index.ensures (sym c.if-comes.ensures.value) c.in_default.ensures.fits.1 in
     (record { parses = all; short = tt })
 
 pub loop-number-preserved : goal.loop-number-preserved

@@ -8,8 +8,8 @@ use Rattle.packet.specs.Stands.{widths_of, fields_of}
 use Rattle.packet.proofs.Reading.{bit_count_more, fields_more, fields_end, put_is}
 use Rattle.packet.proofs.parser.read_fields.Goals as goal
 
-pub number-at-requires : goal.number-at-requires
-number-at-requires c =
+pub number_at-requires : goal.number_at-requires
+number_at-requires c =
     let end : ℕ = c.args.header.now.from + c.args.header.now.fields in
     record {
       narrow = c.args.widths.now.narrow c.loop-field.field;

@@ -15,5 +15,5 @@ narrow (x ∷ xs) e (suc f) = narrow xs (and_parts (leb x 32) (all_narrow xs) e)
 abbrev declared : List ℕ
 declared = 8 ∷ 16 ∷ 32 ∷ 16 ∷ 32 ∷ 16 ∷ 3 ∷ 1 ∷ 12 ∷ 16 ∷ 4 ∷ 4 ∷ 6 ∷ 2 ∷ 16 ∷ 16 ∷ 3 ∷ 13 ∷ 8 ∷ 8 ∷ 16 ∷ 32 ∷ 32 ∷ 16 ∷ 16 ∷ 16 ∷ 16 ∷ replicate 37 0
 
-pub invariant-of-result : goal.invariant-of-result
-invariant-of-result c = (narrow declared refl, tt)
+pub invariant_of-result : goal.invariant_of-result
+invariant_of-result c = (narrow declared refl, tt)

@@ -11,6 +11,6 @@ copied l p rest e = ap (λ (z : List ℕ). take (length p) (z ++ rest)) e ∙ ta
 pub returns : goal.returns
 returns c = record {
   packet = ap (λ (l : List ℕ). over c.args.incoming.fields.now (besides c.args.incoming.present l))
-      (copied c.copy-from-slice.new.self c.args.incoming.payload.now (drop (length c.args.incoming.payload.now - 0) c.args.stored.now.packet.payload.bytes) c.copy-from-slice.ensures.after);
+      (copied c.copy_from_slice.new.self c.args.incoming.payload.now (drop (length c.args.incoming.payload.now - 0) c.args.stored.now.packet.payload.bytes) c.copy_from_slice.ensures.after);
   version = refl;
 }

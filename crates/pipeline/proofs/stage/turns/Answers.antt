@@ -5,10 +5,10 @@ use Rattle.pipeline.specs.Stands.{version_of, transit}
 use Rattle.pipeline.proofs.Turns.{turn_goes, turn_ends, turns_over}
 use Rattle.pipeline.proofs.stage.turns.Goals as goal
 
-pub returns-then-not-works-on : goal.returns-then-not-works-on
-returns-then-not-works-on c base =
+pub returns-then-not-works_on : goal.returns-then-not-works_on
+returns-then-not-works_on c base =
     sym (turn_ends (length (vec_items c.args.loaded.now.nodes) - c.loop-turn.-turn) (version_of c.args.loaded.now c.args.tables.now c.args.newest) c.args.stage
-    (over c.args.fields.now base) (transit (over c.loop-turn.fields base) c.loop-turn.at) (node_of c.node-at-node.result) (sym c.node-at-node.ensures) (sym c.if-not-works-on.ensures))
+    (over c.args.fields.now base) (transit (over c.loop-turn.fields base) c.loop-turn.at) (node_of c.node_at-node.result) (sym c.node_at-node.ensures) (sym c.if-not-works_on.ensures))
     ∙ c.loop-turn.invariant base
 
 pub loop-turn-preserved : goal.loop-turn-preserved
@@ -19,7 +19,7 @@ loop-turn-preserved c base =
     ap (λ (n : ℕ). on_stage n (version_of c.args.loaded.now c.args.tables.now c.args.newest) c.args.stage (over c.args.fields.now base) (transit (over c.go-at.new.fields base) c.go-at.result)) less
     ∙ ap (on_stage (length (vec_items c.args.loaded.now.nodes) - c.loop-turn.-turn - 1) (version_of c.args.loaded.now c.args.tables.now c.args.newest) c.args.stage (over c.args.fields.now base)) (c.go-at.ensures base)
     ∙ sym (turn_goes (length (vec_items c.args.loaded.now.nodes) - c.loop-turn.-turn) (version_of c.args.loaded.now c.args.tables.now c.args.newest) c.args.stage
-    (over c.args.fields.now base) (transit (over c.loop-turn.fields base) c.loop-turn.at) (node_of c.node-at-node.result) (sym c.node-at-node.ensures) (sym c.if-not-works-on.ensures) some)
+    (over c.args.fields.now base) (transit (over c.loop-turn.fields base) c.loop-turn.at) (node_of c.node_at-node.result) (sym c.node_at-node.ensures) (sym c.if-not-works_on.ensures) some)
     ∙ c.loop-turn.invariant base
 
 pub returns : goal.returns

@@ -5,8 +5,8 @@ use Rattle.model.proofs.Room.{limited_stays}
 use Rattle.placement.proofs.Stages.{full_below, limited_next, limited_low}
 use Rattle.placement.proofs.room.first_with_room.Goals as goal
 
-pub overflow-add-stage : goal.overflow-add-stage
-overflow-add-stage c =
+pub overflow_add-stage : goal.overflow_add-stage
+overflow_add-stage c =
     let below = full_below c.args.table (nodes_of c.args.row.now) c.loop-stage.stage (sym c.loop-stage-test.ensures) in
     omega (arith, c.requires)
 

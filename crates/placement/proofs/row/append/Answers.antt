@@ -27,5 +27,5 @@ returns c =
     let same = c.args.row.now.ok.0 in
     let pushed = c.in_ok-push_within.ensures in
     appended (vec_items c.args.row.now) c.deref.result.now (lowest_of c.args.noted.now) c.args.step c.args.point c.node_for-node.result
-    (vec_items c.push_within.new.row) (lowest_of c.noted-with.result) (omega (arith, pushed.0)) (omega (arith, c.node_for-node.ensures.low, c.deref.ensures.len))
-    c.deref.ensures.value c.node_for-node.ensures.node pushed.1 c.noted-with.ensures
+    (vec_items c.push_within.new.row) (lowest_of c.noted_with.result) (omega (arith, pushed.0)) (omega (arith, c.node_for-node.ensures.low, c.deref.ensures.len))
+    c.deref.ensures.value c.node_for-node.ensures.node pushed.1 c.noted_with.ensures

@@ -15,7 +15,7 @@ use Rattle.play.proofs.playing.play.Goals as goal
 
 pub loop-event-preserved : goal.loop-event-preserved
 loop-event-preserved c =
-    ap (λ (os : List Outcome). outcomes_of os ++ played (pipeline_of c.happen.new.pipeline) (events_of (into_iter_items c.next.new.self))) c.in-ok-push.ensures.items
+    ap (λ (os : List Outcome). outcomes_of os ++ played (pipeline_of c.happen.new.pipeline) (events_of (into_iter_items c.next.new.self))) c.in_ok-push.ensures.items
     ∙ played_turn (vec_items c.loop-event.outcomes) c.happen.result (pipeline_of c.loop-event.pipeline) (pipeline_of c.happen.new.pipeline) c.in-Some.event (into_iter_items c.next.new.self)
     c.happen.ensures.outcome c.happen.ensures.does
     ∙ ap (λ (es : List Event). outcomes_of (vec_items c.loop-event.outcomes) ++ played (pipeline_of c.loop-event.pipeline) (events_of es)) (sym c.in-Some.ensures.steps.0)
@@ -28,8 +28,8 @@ returns c =
     played_end (vec_items c.loop-event.outcomes) (pipeline_of c.loop-event.pipeline)
     ∙ ap (λ (es : List Event). outcomes_of (vec_items c.loop-event.outcomes) ++ played (pipeline_of c.loop-event.pipeline) (events_of es)) (sym none)
     ∙ c.loop-event.invariant
-    ∙ ap₂ (λ (os : List Outcome) (es : List Event). outcomes_of os ++ played (pipeline_of c.in-Ok.pipeline) (events_of es)) c.new-outcomes.ensures.items c.into-iter-event-iterator.ensures.into-iter-gives.0
+    ∙ ap₂ (λ (os : List Outcome) (es : List Event). outcomes_of os ++ played (pipeline_of c.in-Ok.pipeline) (events_of es)) c.new-outcomes.ensures.items c.into_iter-event-iterator.ensures.into-iter-gives.0
     ∙ ap (λ (p : model.Pipeline Bool). played p (events_of (vec_items c.args.events))) c.in-Ok.ensures
-    ∙ all_promised (declarations_of c.args.declarations) (program_of c.args.end (statements_of c.args.statements.now)) (nodes_of (vec_items c.in-ok-nodes.nodes))
-    (placed_sound (program_of c.args.end (statements_of c.args.statements.now)) (nodes_of (vec_items c.in-ok-nodes.nodes)) c.in-ok-nodes.ensures)
+    ∙ all_promised (declarations_of c.args.declarations) (program_of c.args.end (statements_of c.args.statements.now)) (nodes_of (vec_items c.in_ok-nodes.nodes))
+    (placed_sound (program_of c.args.end (statements_of c.args.statements.now)) (nodes_of (vec_items c.in_ok-nodes.nodes)) c.in_ok-nodes.ensures)
     (events_of (vec_items c.args.events))

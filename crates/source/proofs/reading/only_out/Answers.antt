@@ -3,5 +3,5 @@ use Rattle.source.proofs.Giving.{small_set}
 use Rattle.source.proofs.Runs.{zeros}
 use Rattle.source.proofs.reading.only_out.Goals as goal
 
-pub invariant-of-result : goal.invariant-of-result
-invariant-of-result c = (small_set (replicate 64 0) 0 8 32 (lit≤ tt) (zeros 64), tt)
+pub invariant_of-result : goal.invariant_of-result
+invariant_of-result c = (small_set (replicate 64 0) 0 8 32 (lit≤ tt) (zeros 64), tt)

@@ -6,22 +6,22 @@ use Rattle.source.specs.Stands.{seen_of, phase_of}
 use Rattle.source.proofs.Runs.{goes_on, ends_here, stops_here}
 use Rattle.source.proofs.reading.read.Goals as goal
 
-pub returns-in-err-phase : goal.returns-in-err-phase
-returns-in-err-phase c =
-    let p = err_from_is_err_and c.from-residual.result c.from-residual.ensures.1 in
-    rw (p.1, p.2) (elim c.in-err-phase.ensures [
+pub returns-in_err-phase : goal.returns-in_err-phase
+returns-in_err-phase c =
+    let p = err_from_is_err_and c.from_residual.result c.from_residual.ensures.1 in
+    rw (p.1, p.2) (elim c.in_err-phase.ensures [
       | inl m ↦ inl m
       | inr q ↦ inr (sym c.loop-seen.invariant ∙ stops_here (phase_of c.loop-seen.phase) (seen_of c.loop-seen.seen) (token_of c.next-x.result)
           (tokens_from c.loop-seen.scanner.at c.loop-seen.scanner.rest.now) (tokens_from c.next-x.new.self.at c.next-x.new.self.rest.now)
-          c.in-err-phase.field-0.0 c.next-x.ensures q)
+          c.in_err-phase.field-0.0 c.next-x.ensures q)
     ])
 
-pub returns-then-is-end : goal.returns-then-is-end
-returns-then-is-end c =
+pub returns-then-is_end : goal.returns-then-is_end
+returns-then-is_end c =
     sym c.loop-seen.invariant
-    ∙ ends_here (phase_of c.loop-seen.phase) (phase_of c.in-ok-phase.phase) (seen_of c.loop-seen.seen) (seen_of c.step.new.self) (token_of c.next-x.result)
+    ∙ ends_here (phase_of c.loop-seen.phase) (phase_of c.in_ok-phase.phase) (seen_of c.loop-seen.seen) (seen_of c.step.new.self) (token_of c.next-x.result)
     (tokens_from c.loop-seen.scanner.at c.loop-seen.scanner.rest.now) (tokens_from c.next-x.new.self.at c.next-x.new.self.rest.now)
-    c.next-x.ensures c.in-ok-phase.ensures (sym c.if-is-end.ensures)
+    c.next-x.ensures c.in_ok-phase.ensures (sym c.if-is_end.ensures)
 
 pub loop-seen-preserved : goal.loop-seen-preserved
 loop-seen-preserved c =

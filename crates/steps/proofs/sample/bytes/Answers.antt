@@ -2,5 +2,5 @@ use Rattle.std.proofs.Common.{lit≤}
 use Rattle.steps.proofs.Narrow.{narrow}
 use Rattle.steps.proofs.sample.bytes.Goals as goal
 
-pub invariant-of-result : goal.invariant-of-result
-invariant-of-result c = (narrow 64 8 32 (lit≤ tt), tt)
+pub invariant_of-result : goal.invariant_of-result
+invariant_of-result c = (narrow 64 8 32 (lit≤ tt), tt)

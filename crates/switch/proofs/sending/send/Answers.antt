@@ -30,6 +30,6 @@ returns c =
     omega (arith, ap length c.bytes-payload.ensures, length-take p.payload.length p.payload.bytes, p.payload.fits) in
     record {
       writes = framed out c.deparse-put.new.out bytes port n (omega (arith, c.requires)) is count
-          ∙ sym (ap (λ (l : List ℕ). l ++ drop (n + 4) out) (cond-false (eqb port 0) [] (packet_frame port bytes) (sym c.is-dropped.ensures ∙ c.if-is-dropped.false)));
+          ∙ sym (ap (λ (l : List ℕ). l ++ drop (n + 4) out) (cond-false (eqb port 0) [] (packet_frame port bytes) (sym c.is_dropped.ensures ∙ c.if-is_dropped.false)));
       small = omega (arith, c.in-Ok.ensures.small, kept);
     }

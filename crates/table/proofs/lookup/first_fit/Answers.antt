@@ -22,9 +22,9 @@ returns-after-entries c base =
     let all : c.entries.found ≡ length c.args.entries.now = c.entries.invariant.0 in
     omega (arith, none, inv, all, c.entries.auto.at-end)
 
-pub returns-then-entry-fits : goal.returns-then-entry-fits
-returns-then-entry-fits c base =
+pub returns-then-entry_fits : goal.returns-then-entry_fits
+returns-then-entry_fits c base =
     let here = first_found (numbers_of c.args.looks.now) c.args.entries.now c.entries.at c.index-entries-at.result (over c.args.fields.now base)
-    c.entries-test.true c.index-entries-at.is (sym (c.if-entry-fits.ensures base)) in
+    c.entries-test.true c.index-entries-at.is (sym (c.if-entry_fits.ensures base)) in
     let inv = c.entries.invariant.1 base in
     omega (arith, here, inv)

@@ -7,8 +7,8 @@ pub returns : goal.returns
 returns c =
     let w = c.args.self.now in
     let f : w.filled ≤ length (vec_items w.buffer) = omega (arith, w.within, w.buffer.ok.0) in
-    let n : length (vec_items w.buffer) ≤ c.saturating-add.result = omega (arith, w.buffer.ok.0) in
+    let n : length (vec_items w.buffer) ≤ c.saturating_add.result = omega (arith, w.buffer.ok.0) in
     record {
       same = refl;
-      held = ap (take w.filled) c.resize.ensures.items ∙ grown (is_ok c.resize.result) w.filled c.saturating-add.result (vec_items w.buffer) _ f n;
+      held = ap (take w.filled) c.resize.ensures.items ∙ grown (is_ok c.resize.result) w.filled c.saturating_add.result (vec_items w.buffer) _ f n;
     }

@@ -13,4 +13,4 @@ pub returns : goal.returns
 returns c =
     let w = c.args.self.now in
     let k : w.filled ≤ length (vec_items w.buffer) = omega (arith, w.within, w.buffer.ok.0) in
-    ap (take (w.filled - c.args.used)) c.copy-within.ensures.items ∙ shifted (vec_items w.buffer) (drop (0 + (w.filled - c.args.used)) (vec_items w.buffer)) c.args.used w.filled c.requires k
+    ap (take (w.filled - c.args.used)) c.copy_within.ensures.items ∙ shifted (vec_items w.buffer) (drop (0 + (w.filled - c.args.used)) (vec_items w.buffer)) c.args.used w.filled c.requires k

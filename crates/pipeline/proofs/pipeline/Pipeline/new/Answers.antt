@@ -11,8 +11,8 @@ use Rattle.pipeline.proofs.pipeline.Pipeline.new.Goals as goal
 pub returns : goal.returns
 returns c = record {
   starts = ap₂ {C = model.Pipeline Bool} (λ (l : List (model.Slot Bool)) (vs : Bool → Version). record { slots = l; versions = vs; newest = false })
-      (c.free-slots-slots.ensures.free (store_of (vec_items c.in-ok-store.store)))
+      (c.free_slots-slots.ensures.free (store_of (vec_items c.in_ok-store.store)))
       (fun_ext (λ v. ap {B = Version} (λ (t : Tables). record { declarations = declarations_of c.args.loaded.declarations; nodes = nodes_of (vec_items c.args.loaded.nodes); tables = t })
-      (c.in-ok-tables.ensures (beq v false))));
+      (c.in_ok-tables.ensures (beq v false))));
   program = refl;
 }

@@ -10,13 +10,13 @@ use Rattle.pipeline.proofs.pipeline.Pipeline.step.Goals as goal
 
 pub returns : goal.returns
 returns c =
-    let long : length c.admitted-slot.new.store ≡ c.args.self.now.store.len = c.admitted-slot.auto.store ∙ c.deref-mut.ensures.len in
+    let long : length c.admitted-slot.new.store ≡ c.args.self.now.store.len = c.admitted-slot.auto.store ∙ c.deref_mut.ensures.len in
     let after : vec_items (with_items c.args.self.now.store c.admitted-slot.new.store) ≡ c.admitted-slot.new.store =
     with_items_is c.args.self.now.store c.admitted-slot.new.store long in
     let keeps : slots_of (store_of (vec_items (with_items c.args.self.now.store c.admitted-slot.new.store))) c.args.self.now.slots.row ≡ slots_of (store_of (vec_items c.args.self.now.store)) c.args.self.now.slots.row =
     ap (λ (ss : List Stored). slots_of (store_of ss) c.args.self.now.slots.row) after
-    ∙ slots_keep (store_of c.deref-mut.result.now) (store_of c.admitted-slot.new.store) c.args.self.now.slots.row c.args.self.now.spare.at c.args.self.now.apart c.admitted-slot.ensures.elsewhere
-    ∙ ap (λ (ss : List Stored). slots_of (store_of ss) c.args.self.now.slots.row) c.deref-mut.ensures.value in
+    ∙ slots_keep (store_of c.deref_mut.result.now) (store_of c.admitted-slot.new.store) c.args.self.now.slots.row c.args.self.now.spare.at c.args.self.now.apart c.admitted-slot.ensures.elsewhere
+    ∙ ap (λ (ss : List Stored). slots_of (store_of ss) c.args.self.now.slots.row) c.deref_mut.ensures.value in
     record {
       does = c.advance.ensures.does
           ∙ ap₂ (λ (x : model.Slot Bool) (l : List (model.Slot Bool)). shifted x (withSlots c l))

@@ -5,8 +5,8 @@ use Rattle.switch.specs.Stands.{mode_of}
 use Rattle.switch.proofs.Steps.{empty_waits, cut_waits, pause_does, whole_does, unknown_does}
 use Rattle.switch.proofs.switch.Switch.step.Goals as goal
 
-pub overflow-sub-result-in-Whole : goal.overflow-sub-result-in-Whole
-overflow-sub-result-in-Whole c = omega (arith, whole_size c.args.bytes.now c.in-Whole.kind c.in-Whole.body.now c.in-Whole.rest.now (sym c.in-Whole.ensures))
+pub overflow_sub-result-in-Whole : goal.overflow_sub-result-in-Whole
+overflow_sub-result-in-Whole c = omega (arith, whole_size c.args.bytes.now c.in-Whole.kind c.in-Whole.body.now c.in-Whole.rest.now (sym c.in-Whole.ensures))
 
 pub returns-in-Empty : goal.returns-in-Empty
 returns-in-Empty c = record { does = empty_waits (mode_of c.args.self.now.state) c.args.bytes.now c.args.out.now (sym c.in-Empty.ensures); used = omega arith; written = omega arith }

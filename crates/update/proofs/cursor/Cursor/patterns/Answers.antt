@@ -13,11 +13,11 @@ use Rattle.update.proofs.cursor.Cursor.patterns.Goals as goal
 pub returns-in-Err : goal.returns-in-Err
 returns-in-Err c k =
     subst (λ (z : Decoded). Refuses c.in-Err.fault z)
-    (ap (λ (n : ℕ). pattern_at n c.loop-k.self.at c.loop-k.self.rest.now (λ w behind rest. patterns_at (declarations_of c.args.declarations.now) (numbers_of (drop (c.loop-k.k + 1) c.as-slice-looks.result.now)) ((patterns_of (take c.loop-k.k c.loop-k.values) (take c.loop-k.k c.loop-k.masks)) ++ (w ∷ [])) behind rest k)) c.width-of.ensures.value
-    ∙ sym (patterns_more (declarations_of c.args.declarations.now) c.as-slice-looks.result.now c.loop-k.k (get_or c.as-slice-looks.result.now c.loop-k.k c.index-looks-k.result) (patterns_of (take c.loop-k.k c.loop-k.values) (take c.loop-k.k c.loop-k.masks)) c.loop-k.self.at c.loop-k.self.rest.now k c.loop-k-test.true (ap (get_or c.as-slice-looks.result.now c.loop-k.k) c.index-looks-k.is))
+    (ap (λ (n : ℕ). pattern_at n c.loop-k.self.at c.loop-k.self.rest.now (λ w behind rest. patterns_at (declarations_of c.args.declarations.now) (numbers_of (drop (c.loop-k.k + 1) c.as_slice-looks.result.now)) ((patterns_of (take c.loop-k.k c.loop-k.values) (take c.loop-k.k c.loop-k.masks)) ++ (w ∷ [])) behind rest k)) c.width_of.ensures.value
+    ∙ sym (patterns_more (declarations_of c.args.declarations.now) c.as_slice-looks.result.now c.loop-k.k (get_or c.as_slice-looks.result.now c.loop-k.k c.index-looks-k.result) (patterns_of (take c.loop-k.k c.loop-k.values) (take c.loop-k.k c.loop-k.masks)) c.loop-k.self.at c.loop-k.self.rest.now k c.loop-k-test.true (ap (get_or c.as_slice-looks.result.now c.loop-k.k) c.index-looks-k.is))
     ∙ c.loop-k.invariant.3 k
-    ∙ ap (λ (l : List FieldNo). patterns_at (declarations_of c.args.declarations.now) (numbers_of l) [] c.args.self.now.at c.args.self.now.rest.now k) c.as-slice-looks.ensures.value)
-    (c.in-Err.ensures (λ w behind rest. patterns_at (declarations_of c.args.declarations.now) (numbers_of (drop (c.loop-k.k + 1) c.as-slice-looks.result.now)) ((patterns_of (take c.loop-k.k c.loop-k.values) (take c.loop-k.k c.loop-k.masks)) ++ (w ∷ [])) behind rest k))
+    ∙ ap (λ (l : List FieldNo). patterns_at (declarations_of c.args.declarations.now) (numbers_of l) [] c.args.self.now.at c.args.self.now.rest.now k) c.as_slice-looks.ensures.value)
+    (c.in-Err.ensures (λ w behind rest. patterns_at (declarations_of c.args.declarations.now) (numbers_of (drop (c.loop-k.k + 1) c.as_slice-looks.result.now)) ((patterns_of (take c.loop-k.k c.loop-k.values) (take c.loop-k.k c.loop-k.masks)) ++ (w ∷ [])) behind rest k))
 
 pub loop-k-init : goal.loop-k-init
 unfolding patterns_of
@@ -37,17 +37,17 @@ loop-k-preserved c =
       length-set c.loop-k.values c.loop-k.k c.in-Ok.value ∙ c.loop-k.invariant.1,
       length-set c.loop-k.masks c.loop-k.k c.in-Ok.mask ∙ c.loop-k.invariant.2,
       λ k.
-          ap (λ (l : List Pattern). patterns_at (declarations_of c.args.declarations.now) (numbers_of (drop (c.loop-k.k + 1) c.as-slice-looks.result.now)) l c.pattern.new.self.at c.pattern.new.self.rest.now k) pushed
-          ∙ sym (c.in-Ok.ensures (λ w behind rest. patterns_at (declarations_of c.args.declarations.now) (numbers_of (drop (c.loop-k.k + 1) c.as-slice-looks.result.now)) ((patterns_of (take c.loop-k.k c.loop-k.values) (take c.loop-k.k c.loop-k.masks)) ++ (w ∷ [])) behind rest k))
-          ∙ ap (λ (n : ℕ). pattern_at n c.loop-k.self.at c.loop-k.self.rest.now (λ w behind rest. patterns_at (declarations_of c.args.declarations.now) (numbers_of (drop (c.loop-k.k + 1) c.as-slice-looks.result.now)) ((patterns_of (take c.loop-k.k c.loop-k.values) (take c.loop-k.k c.loop-k.masks)) ++ (w ∷ [])) behind rest k)) c.width-of.ensures.value
-          ∙ sym (patterns_more (declarations_of c.args.declarations.now) c.as-slice-looks.result.now c.loop-k.k (get_or c.as-slice-looks.result.now c.loop-k.k c.index-looks-k.result) (patterns_of (take c.loop-k.k c.loop-k.values) (take c.loop-k.k c.loop-k.masks)) c.loop-k.self.at c.loop-k.self.rest.now k c.loop-k-test.true (ap (get_or c.as-slice-looks.result.now c.loop-k.k) c.index-looks-k.is))
+          ap (λ (l : List Pattern). patterns_at (declarations_of c.args.declarations.now) (numbers_of (drop (c.loop-k.k + 1) c.as_slice-looks.result.now)) l c.pattern.new.self.at c.pattern.new.self.rest.now k) pushed
+          ∙ sym (c.in-Ok.ensures (λ w behind rest. patterns_at (declarations_of c.args.declarations.now) (numbers_of (drop (c.loop-k.k + 1) c.as_slice-looks.result.now)) ((patterns_of (take c.loop-k.k c.loop-k.values) (take c.loop-k.k c.loop-k.masks)) ++ (w ∷ [])) behind rest k))
+          ∙ ap (λ (n : ℕ). pattern_at n c.loop-k.self.at c.loop-k.self.rest.now (λ w behind rest. patterns_at (declarations_of c.args.declarations.now) (numbers_of (drop (c.loop-k.k + 1) c.as_slice-looks.result.now)) ((patterns_of (take c.loop-k.k c.loop-k.values) (take c.loop-k.k c.loop-k.masks)) ++ (w ∷ [])) behind rest k)) c.width_of.ensures.value
+          ∙ sym (patterns_more (declarations_of c.args.declarations.now) c.as_slice-looks.result.now c.loop-k.k (get_or c.as_slice-looks.result.now c.loop-k.k c.index-looks-k.result) (patterns_of (take c.loop-k.k c.loop-k.values) (take c.loop-k.k c.loop-k.masks)) c.loop-k.self.at c.loop-k.self.rest.now k c.loop-k-test.true (ap (get_or c.as_slice-looks.result.now c.loop-k.k) c.index-looks-k.is))
           ∙ c.loop-k.invariant.3 k,
     )
 
 pub returns : goal.returns
 returns c k =
-    let all : c.loop-k.k ≡ length c.as-slice-looks.result.now = omega (arith, c.loop-k-test.false, c.loop-k.auto.k-end) in
-    ap (λ (l : List FieldNo). patterns_at (declarations_of c.args.declarations.now) (numbers_of l) [] c.args.self.now.at c.args.self.now.rest.now k) (sym c.as-slice-looks.ensures.value)
+    let all : c.loop-k.k ≡ length c.as_slice-looks.result.now = omega (arith, c.loop-k-test.false, c.loop-k.auto.k-end) in
+    ap (λ (l : List FieldNo). patterns_at (declarations_of c.args.declarations.now) (numbers_of l) [] c.args.self.now.at c.args.self.now.rest.now k) (sym c.as_slice-looks.ensures.value)
     ∙ sym (c.loop-k.invariant.3 k)
-    ∙ patterns_end (declarations_of c.args.declarations.now) c.as-slice-looks.result.now c.loop-k.k (patterns_of (take c.loop-k.k c.loop-k.values) (take c.loop-k.k c.loop-k.masks)) c.loop-k.self.at c.loop-k.self.rest.now k c.loop-k-test.false
+    ∙ patterns_end (declarations_of c.args.declarations.now) c.as_slice-looks.result.now c.loop-k.k (patterns_of (take c.loop-k.k c.loop-k.values) (take c.loop-k.k c.loop-k.masks)) c.loop-k.self.at c.loop-k.self.rest.now k c.loop-k-test.false
     ∙ ap (λ (n : ℕ). k (patterns_of (take n c.loop-k.values) (take n c.loop-k.masks)) c.loop-k.self.at c.loop-k.self.rest.now) all
