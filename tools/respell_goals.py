@@ -22,7 +22,7 @@ def names_of(crate):
         for name in files:
             if name.endswith(".rt"):
                 with open(os.path.join(folder, name), encoding="utf-8") as f:
-                    text = re.sub(r"//[^\n]*", "", f.read())
+                    text = re.sub(r"//[^\n]*|ghost use [^;]*;|^ *(?:requires|ensures|ghost) .*$", "", f.read(), flags=re.M)
                     found |= set(re.findall(r"\b[A-Za-z]\w*_\w+\b", text))
     return sorted(found, key=lambda n: (-n.count("_"), n))
 

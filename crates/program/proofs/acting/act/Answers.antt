@@ -13,7 +13,7 @@ returns-in-Set c base =
 pub returns-in-Add : goal.returns-in-Add
 returns-in-Add c base =
     rw c.in-Add.is
-    (c.put_in-Add.ensures base
+    (c.put-in-Add.ensures base
     ∙ ap (λ (z : ℕ). put c.in-Add.field.at z (over c.args.fields.now base))
     (c.low_bits-in-Add.ensures
     ∙ ap₂ (λ (x w : ℕ). x % (2 ^ w)) (ap₂ (λ (a b : ℕ). a + b) (c.at.ensures base) (c.value.ensures base)) c.width-in-Add.ensures.value))
