@@ -84,4 +84,4 @@ loop-pending-preserved c =
     let index : b.node ≡ length (vec_items c.loop-pending.row) = omega (arith, c.len-node.ensures) in
     branches c.loop-pending.invariant c.step_at-step.result c.step_at-step.ensures (vec_items c.append.new.row) (lowest_of c.append.new.noted) c.in_ok-stage.ensures
     c.in-If.yes c.in-If.no c.behind_branch-point.result b (vec_items c.push.new.self)
-    c.in-If.is index c.behind_branch-no.ensures c.behind_branch-point.ensures c.in_ok-push.ensures.items
+    c.in-If.is index c.behind_branch-no.ensures c.behind_branch-point.ensures c.in_ok-push-in-If.ensures.items

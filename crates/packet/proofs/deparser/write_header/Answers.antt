@@ -31,7 +31,7 @@ loop-field-init c =
           ∙ ap (λ (n : ℕ). write_fields W n c.args.header.now.from F) e,
       omega arith,
       omega arith,
-      (λ i. (c.ok.out i).fits),
+      (λ i. (c.type_inv.out i).fits),
       omega (arith, ap (λ (n : ℕ). bit_count W n c.args.header.now.from) e),
     )
 

@@ -4,4 +4,4 @@ use Rattle.source.proofs.Runs.{zeros}
 use Rattle.source.proofs.reading.only_out.Goals as goal
 
 pub invariant_of-result : goal.invariant_of-result
-invariant_of-result c = (small_set (replicate 64 0) 0 8 32 (lit≤ tt) (zeros 64), tt)
+invariant_of-result c = record { narrow = small_set (replicate 64 0) 0 8 32 (lit≤ tt) (zeros 64) }
