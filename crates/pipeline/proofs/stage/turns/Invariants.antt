@@ -8,5 +8,5 @@ use Rattle.pipeline.proofs.stage.turns.Given as goal
 -- what is left of the turns makes of the packet now what all make of it as it came
 abbrev pub invariant-loop-turn : goal.invariant-loop-turn
 invariant-loop-turn l = (base : Packet) →
-    on_stage (length (vec_items l.loaded.nodes) - l.-turn) (version_of l.loaded l.tables l.newest) l.stage (over l.seen base) (transit (over l.fields base) l.at)
+    on_stage (length (vec_items l.loaded.nodes) - l._turn) (version_of l.loaded l.tables l.newest) l.stage (over l.seen base) (transit (over l.fields base) l.at)
     ≡ on_stage (length (vec_items l.loaded.nodes)) (version_of l.loaded l.tables l.newest) l.stage (over l.seen base) (transit (over l.initial.fields base) l.initial.at)

@@ -9,11 +9,11 @@ use Rattle.pipeline.proofs.OneStep.{step_row, step_last, step_differ}
 use Rattle.pipeline.proofs.pipeline.Pipeline.advance.Goals as goal
 
 pub invariant_of-self : goal.invariant_of-self
-invariant_of-self c = (
-  step_differ c.args.self.now.slots.row c.advance-last.result.0.row c.args.incoming c.advance-last.result.1 c.args.self.now.spare.at c.place-self.result.at
-      c.requires c.place-self.ensures c.advance-last.ensures.places c.args.self.now.apart,
-  (c.args.self.now.stored, tt),
-)
+invariant_of-self c = record {
+  apart = step_differ c.args.self.now.slots.row c.advance-last.result.0.row c.args.incoming c.advance-last.result.1 c.args.self.now.spare.at c.place-self.result.at
+      c.requires c.place-self.ensures c.advance-last.ensures.places c.args.self.now.apart;
+  stored = c.args.self.now.stored;
+}
 
 pub returns : goal.returns
 returns c =

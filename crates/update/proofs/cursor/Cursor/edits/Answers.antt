@@ -12,27 +12,27 @@ use Rattle.update.proofs.cursor.Cursor.edits.Goals as goal
 
 pub returns-in-Err : goal.returns-in-Err
 returns-in-Err c k =
-    let some : 0 < c.args.count - c.loop-turn.-turn = omega (arith, c.loop-turn-test.true) in
+    let some : 0 < c.args.count - c.loop-turn._turn = omega (arith, c.loop-turn-test.true) in
     subst (λ (z : Decoded). Refuses c.in-Err.fault z)
-    (ap (λ (gs : List Edit). edit_at (declarations_of c.args.declarations.now) (vec_len c.args.declarations.now.tables) (edits_of gs) c.loop-turn.self.at c.loop-turn.self.rest.now (λ g behind rest. edits_at (declarations_of c.args.declarations.now) (vec_len c.args.declarations.now.tables) (c.args.count - c.loop-turn.-turn - 1) (edits_of (vec_items c.loop-turn.edits) ++ (g ∷ [])) behind rest k)) c.deref.ensures.value
-    ∙ sym (edits_more (declarations_of c.args.declarations.now) (vec_len c.args.declarations.now.tables) (c.args.count - c.loop-turn.-turn) (edits_of (vec_items c.loop-turn.edits)) c.loop-turn.self.at c.loop-turn.self.rest.now k some)
+    (ap (λ (gs : List Edit). edit_at (declarations_of c.args.declarations.now) (vec_len c.args.declarations.now.tables) (edits_of gs) c.loop-turn.self.at c.loop-turn.self.rest.now (λ g behind rest. edits_at (declarations_of c.args.declarations.now) (vec_len c.args.declarations.now.tables) (c.args.count - c.loop-turn._turn - 1) (edits_of (vec_items c.loop-turn.edits) ++ (g ∷ [])) behind rest k)) c.deref.ensures.value
+    ∙ sym (edits_more (declarations_of c.args.declarations.now) (vec_len c.args.declarations.now.tables) (c.args.count - c.loop-turn._turn) (edits_of (vec_items c.loop-turn.edits)) c.loop-turn.self.at c.loop-turn.self.rest.now k some)
     ∙ c.loop-turn.invariant k)
-    (c.in-Err.ensures (λ g behind rest. edits_at (declarations_of c.args.declarations.now) (vec_len c.args.declarations.now.tables) (c.args.count - c.loop-turn.-turn - 1) (edits_of (vec_items c.loop-turn.edits) ++ (g ∷ [])) behind rest k))
+    (c.in-Err.ensures (λ g behind rest. edits_at (declarations_of c.args.declarations.now) (vec_len c.args.declarations.now.tables) (c.args.count - c.loop-turn._turn - 1) (edits_of (vec_items c.loop-turn.edits) ++ (g ∷ [])) behind rest k))
 
 pub loop-turn-preserved : goal.loop-turn-preserved
 loop-turn-preserved c k =
-    let some : 0 < c.args.count - c.loop-turn.-turn = omega (arith, c.loop-turn-test.true) in
-    let less : c.args.count - (c.loop-turn.-turn + 1) ≡ c.args.count - c.loop-turn.-turn - 1 = omega arith in
+    let some : 0 < c.args.count - c.loop-turn._turn = omega (arith, c.loop-turn-test.true) in
+    let less : c.args.count - (c.loop-turn._turn + 1) ≡ c.args.count - c.loop-turn._turn - 1 = omega arith in
     ap (λ (n : ℕ). edits_at (declarations_of c.args.declarations.now) (vec_len c.args.declarations.now.tables) n (edits_of (vec_items c.pushed.new.row)) c.edit.new.self.at c.edit.new.self.rest.now k) less
-    ∙ ap (λ (l : List version.Edit). edits_at (declarations_of c.args.declarations.now) (vec_len c.args.declarations.now.tables) (c.args.count - c.loop-turn.-turn - 1) l c.edit.new.self.at c.edit.new.self.rest.now k)
+    ∙ ap (λ (l : List version.Edit). edits_at (declarations_of c.args.declarations.now) (vec_len c.args.declarations.now.tables) (c.args.count - c.loop-turn._turn - 1) l c.edit.new.self.at c.edit.new.self.rest.now k)
     (ap edits_of c.if-not-pushed.ensures ∙ map_push edit_of (vec_items c.loop-turn.edits) c.in-Ok.edit)
-    ∙ sym (c.in-Ok.ensures (λ g behind rest. edits_at (declarations_of c.args.declarations.now) (vec_len c.args.declarations.now.tables) (c.args.count - c.loop-turn.-turn - 1) (edits_of (vec_items c.loop-turn.edits) ++ (g ∷ [])) behind rest k))
-    ∙ ap (λ (gs : List Edit). edit_at (declarations_of c.args.declarations.now) (vec_len c.args.declarations.now.tables) (edits_of gs) c.loop-turn.self.at c.loop-turn.self.rest.now (λ g behind rest. edits_at (declarations_of c.args.declarations.now) (vec_len c.args.declarations.now.tables) (c.args.count - c.loop-turn.-turn - 1) (edits_of (vec_items c.loop-turn.edits) ++ (g ∷ [])) behind rest k)) c.deref.ensures.value
-    ∙ sym (edits_more (declarations_of c.args.declarations.now) (vec_len c.args.declarations.now.tables) (c.args.count - c.loop-turn.-turn) (edits_of (vec_items c.loop-turn.edits)) c.loop-turn.self.at c.loop-turn.self.rest.now k some)
+    ∙ sym (c.in-Ok.ensures (λ g behind rest. edits_at (declarations_of c.args.declarations.now) (vec_len c.args.declarations.now.tables) (c.args.count - c.loop-turn._turn - 1) (edits_of (vec_items c.loop-turn.edits) ++ (g ∷ [])) behind rest k))
+    ∙ ap (λ (gs : List Edit). edit_at (declarations_of c.args.declarations.now) (vec_len c.args.declarations.now.tables) (edits_of gs) c.loop-turn.self.at c.loop-turn.self.rest.now (λ g behind rest. edits_at (declarations_of c.args.declarations.now) (vec_len c.args.declarations.now.tables) (c.args.count - c.loop-turn._turn - 1) (edits_of (vec_items c.loop-turn.edits) ++ (g ∷ [])) behind rest k)) c.deref.ensures.value
+    ∙ sym (edits_more (declarations_of c.args.declarations.now) (vec_len c.args.declarations.now.tables) (c.args.count - c.loop-turn._turn) (edits_of (vec_items c.loop-turn.edits)) c.loop-turn.self.at c.loop-turn.self.rest.now k some)
     ∙ c.loop-turn.invariant k
 
 pub returns : goal.returns
 returns c k =
-    let none : c.args.count - c.loop-turn.-turn ≡ 0 = omega (arith, c.loop-turn-test.false) in
+    let none : c.args.count - c.loop-turn._turn ≡ 0 = omega (arith, c.loop-turn-test.false) in
     sym (c.loop-turn.invariant k)
-    ∙ edits_end (declarations_of c.args.declarations.now) (vec_len c.args.declarations.now.tables) (c.args.count - c.loop-turn.-turn) (edits_of (vec_items c.loop-turn.edits)) c.loop-turn.self.at c.loop-turn.self.rest.now k none
+    ∙ edits_end (declarations_of c.args.declarations.now) (vec_len c.args.declarations.now.tables) (c.args.count - c.loop-turn._turn) (edits_of (vec_items c.loop-turn.edits)) c.loop-turn.self.at c.loop-turn.self.rest.now k none

@@ -9,5 +9,5 @@ use Rattle.update.proofs.cursor.Cursor.edits.Given as goal
 -- what is left to read, behind what was read, comes to what all comes to
 abbrev pub invariant-loop-turn : goal.invariant-loop-turn
 invariant-loop-turn l = (then : Then (List version.Edit)) →
-    edits_at (declarations_of l.declarations) (vec_len l.declarations.tables) (l.count - l.-turn) (edits_of (vec_items l.edits)) l.self.at l.self.rest.now then
+    edits_at (declarations_of l.declarations) (vec_len l.declarations.tables) (l.count - l._turn) (edits_of (vec_items l.edits)) l.self.at l.self.rest.now then
     ≡ edits_at (declarations_of l.declarations) (vec_len l.declarations.tables) l.count [] l.initial.self.at l.initial.self.rest.now then
