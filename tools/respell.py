@@ -5,7 +5,7 @@ usage: tools/respell.py [--check]
 
 It goes by what the .antt files of crates/ declare: valueOf and value-of become value_of, Round-trip becomes RoundTrip. Each whole word that is
 spelled like such a name turns, in .antt and .rt files and in what stands behind the names of docs/. What Rattle makes of the source keeps its name:
-what stands right behind a dot of c, w, l, g or goal, and what is imported from a function's Goals or Given. Where two names would fall together the
+what stands right behind a dot of c, w, l, g or goal in a function's own proof files, and what is imported from a function's Goals or Given. Where two names would fall together the
 script says so and writes nothing. --check writes nothing.
 """
 
@@ -60,7 +60,7 @@ def declared(path, text):
                 yield m[2]
 
 
-def turned(text, table, kept, count, in_source):
+def turned(text, table, kept, count, in_source, in_answers):
     """The text with each word of the table turned."""
 
     def words(part):
@@ -68,7 +68,7 @@ def turned(text, table, kept, count, in_source):
         for m in re.finditer(WORD, part):
             dotted = part[m.start() - 1 : m.start()] == "." and m.start() > 0
             chain = chain + [m[0]] if dotted else [m[0]]
-            made = len(chain) >= 2 and HEAD.match(chain[0]) and (len(chain) == 2 or (len(chain) == 3 and chain[1] in HOLDERS))
+            made = in_answers and len(chain) >= 2 and HEAD.match(chain[0]) and (len(chain) == 2 or (len(chain) == 3 and chain[1] in HOLDERS))
             new = table.get(m[0])
             if new and m[0] not in kept and not made and not (in_source and m[0] in LEMMAS):
                 out.append(part[at : m.start()] + new)
@@ -136,7 +136,7 @@ def main():
         kept = {w for m in MADE.finditer(text) for w in re.findall(WORD, m[1])}
         if is_answers(path):
             kept |= {m[1] for m in re.finditer(rf"(?m)^(?:abbrev )?pub ({WORD}) : goal\.", text)}
-        new = turned(text, table, kept, count, path.endswith(".rt"))
+        new = turned(text, table, kept, count, path.endswith(".rt"), is_answers(path))
         if new != text and "--check" not in sys.argv and not bad:
             with open(path, "w", encoding="utf-8") as f:
                 f.write(new)

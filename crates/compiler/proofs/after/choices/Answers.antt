@@ -6,14 +6,14 @@ use Rattle.source.specs.Stands.{choices_of as choices_seen}
 use Rattle.compiler.specs.Packaging.{choices_of}
 use Rattle.compiler.proofs.Counting.{picked, passed, all_picked}
 use Rattle.compiler.proofs.after.choices.Goals as goal
-use Rattle.compiler.proofs.after.choices.Goals.{then-choice-number+in-ok-push, else-choice-number}
+use Rattle.compiler.proofs.after.choices.Goals.{then-choice-number+in_ok-push, else-choice-number}
 
 pub loop-k-preserved : goal.loop-k-preserved
 loop-k-preserved c =
     let hs = headers_of c.args.headers.now in
     let all = choices_of hs c.args.number (choices_seen c.args.chosen.now) in
     elim c.if-choice-number.branch [
-      | then-choice-number+in-ok-push w ↦
+      | then-choice-number+in_ok-push w ↦
           rw w.choices-is (picked hs c.args.number c.args.chosen.now c.loop-k.k c.index-chosen-k.result
           (vec_items c.loop-k.choices) (vec_items w.push.new.self) (record { value = c.index-chosen-k.result.value; next = w.follow.result }) all
           c.loop-k-test.true c.index-chosen-k.is w.if-choice-number.true

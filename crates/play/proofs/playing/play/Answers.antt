@@ -28,8 +28,8 @@ returns c =
     played_end (vec_items c.loop-event.outcomes) (pipeline_of c.loop-event.pipeline)
     ∙ ap (λ (es : List Event). outcomes_of (vec_items c.loop-event.outcomes) ++ played (pipeline_of c.loop-event.pipeline) (events_of es)) (sym none)
     ∙ c.loop-event.invariant
-    ∙ ap₂ (λ (os : List Outcome) (es : List Event). outcomes_of os ++ played (pipeline_of c.in-Ok.pipeline) (events_of es)) c.new-outcomes.ensures.items c.into_iter-event-iterator.ensures.into-iter-gives.0
-    ∙ ap (λ (p : model.Pipeline Bool). played p (events_of (vec_items c.args.events))) c.in-Ok.ensures
+    ∙ ap₂ (λ (os : List Outcome) (es : List Event). outcomes_of os ++ played (pipeline_of c.in-Ok.pipeline) (events_of es)) c.new-outcomes.ensures.items c.into_iter-event-iterator.ensures.into_iter_gives.0
+    ∙ ap (λ (p : model.Pipeline Bool). played p (events_of (vec_items c.args.events))) c.in-Ok.ensures.starts
     ∙ all_promised (declarations_of c.args.declarations) (program_of c.args.end (statements_of c.args.statements.now)) (nodes_of (vec_items c.in_ok-nodes.nodes))
     (placed_sound (program_of c.args.end (statements_of c.args.statements.now)) (nodes_of (vec_items c.in_ok-nodes.nodes)) c.in_ok-nodes.ensures)
     (events_of (vec_items c.args.events))
