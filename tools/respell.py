@@ -21,6 +21,7 @@ GHOST_USE = re.compile(r'ghost use [^;]*;')
 HEAD = re.compile(r"(?:c|w|l|g|goal)[0-9']*$")
 HOLDERS = ("args", "initial", "fn", "new", "old", "auto", "ranges", "row")
 MADE = re.compile(r'^use Rattle\.\w+\.proofs\.\S*\.(?:Goals|Given)\.\{([^}]*)\}', re.M)
+LIBRARY = re.compile(r"^(?:ghost )?use (?:Rattle\.std|mathlib|native|lib|Prim)\.[\w.]*\{([^}]*)\}", re.M)
 QUIET = re.compile(r'(?m:^(?:pub |ghost )?use [^\s{;]+)|"(?:[^"\\\n]|\\.)*"|(?<![^\s(){}.;,@"«»])(?:--|//)[^\n]*', re.S)
 # lemmas that would have the name of the definition that they are about, or of one beside it
 LEMMAS = """
@@ -134,6 +135,8 @@ def main():
     count = collections.Counter()
     for path, text in texts.items():
         kept = {w for m in MADE.finditer(text) for w in re.findall(WORD, m[1])}
+        # a name of a library's is the library's
+        kept |= {w for m in LIBRARY.finditer(text) for w in re.findall(WORD, m[1])}
         if is_answers(path):
             kept |= {m[1] for m in re.finditer(rf"(?m)^(?:abbrev )?pub ({WORD}) : goal\.", text)}
         new = turned(text, table, kept, count, path.endswith(".rt"), is_answers(path))

@@ -1,5 +1,5 @@
 -- Which headers are there, as bits of a byte and as a number.
-use Rattle.std.proofs.Common.{◌≡◌, ℕ, zero, suc, ◌+◌, ◌*◌, ◌/◌, ◌%◌, ◌^◌, ◌<◌, Bool, true, false, cond, eqb, ltb, List, get_or, sym, refl, ap, ◌∙◌, ap₂, mul_comm, pow_suc, arith}
+use Rattle.std.proofs.Common.{◌≡◌, ℕ, zero, suc, ◌+◌, ◌*◌, ◌/◌, ◌%◌, ◌^◌, ◌<◌, Bool, true, false, cond, eqb, ltb, List, get_or, sym, refl, ap, ◌∙◌, ap₂, mul_comm, pow-suc, arith}
 use native.Mathlib.Nat.{div-div-eq-div-mul}
 use Rattle.model.specs.Packet.{Packet, besides}
 use Rattle.program.specs.Stands.{over}
@@ -16,7 +16,7 @@ presence_ext (suc n) f g h =
 -- bit i + 1 of a number is bit i of its half
 next_bit : (b i : ℕ) → present_of b (suc i) ≡ present_of (b / 2) i
 next_bit b i =
-    let double : 2 ^ suc i ≡ 2 * 2 ^ i = pow_suc 2 i ∙ mul_comm (2 ^ i) 2 in
+    let double : 2 ^ suc i ≡ 2 * 2 ^ i = pow-suc 2 i ∙ mul_comm (2 ^ i) 2 in
     ap (λ (n : ℕ). eqb (n % 2) 1) (ap (λ (m : ℕ). b / m) double ∙ sym (div-div-eq-div-mul b 2 (2 ^ i)))
 
 as_number : (m : ℕ) → m < 2 → cond (eqb m 1) 1 0 ≡ m
@@ -39,7 +39,7 @@ presence_below (suc n) b h =
   where
     half : (m c : ℕ) → c < 2 ^ suc m → c / 2 < 2 ^ m
     half m c l =
-        let e : 2 ^ suc m ≡ 2 ^ m * 2 = pow_suc 2 m in
+        let e : 2 ^ suc m ≡ 2 ^ m * 2 = pow-suc 2 m in
         omega (arith, l, e)
 
     whole : (c : ℕ) → c % 2 + 2 * (c / 2) ≡ c
