@@ -3,6 +3,7 @@ use crate::protocols::{headers, widths};
 use packet::deparser::deparse;
 use packet::parser::parse;
 use program::field::Fields;
+use std::alloc::Global;
 use std::process::Abort;
 use std::test::*;
 
@@ -26,18 +27,19 @@ const ARP: &[u8; 42] = b"\xff\xff\xff\xff\xff\xff\x52\x54\x00\x12\x34\x56\x08\x0
 
 // The packet has these headers and so many bytes of payload, and is put together again as it was; gives its fields.
 fn goes_through(
-    rt: HostRuntime,
+    rt: &impl Abort,
+    heap: Global,
     bytes: &[u8],
     present: u8,
     payload: usize,
 ) -> Result<Fields, Fail> {
-    let headers = headers(rt.alloc())?;
+    let headers = headers(heap)?;
     let widths = widths();
     let Ok(parsed) = parse(&headers, &widths, bytes) else {
         return Err(Fail::new("refused"));
     };
-    assert_eq!(parsed.present, present);
-    assert_eq!(parsed.payload.len(), payload);
+    assert_eq!(rt; parsed.present, present);
+    assert_eq!(rt; parsed.payload.len(), payload);
     let mut out = [0u8; 64];
     let Ok(written) = deparse(
         &headers,
@@ -49,10 +51,10 @@ fn goes_through(
     ) else {
         return Err(Fail::new("no room"));
     };
-    assert_eq!(written, bytes.len());
+    assert_eq!(rt; written, bytes.len());
     for at in 0..bytes.len() {
-        assert!(at < out.len());
-        assert_eq!(out[at], bytes[at], "byte {at}");
+        assert!(rt; at < out.len());
+        assert_eq!(rt; out[at], bytes[at], "byte {at}");
     }
     Ok(parsed.fields)
 }
@@ -68,7 +70,7 @@ fn has(rt: &impl Abort, fields: &Fields, from: usize, values: &[u32]) -> Result<
 
 #[test]
 fn tagged(rt: HostRuntime) -> Result<(), Fail> {
-    let fields = goes_through(rt, TAGGED, 0b1111, 4)?;
+    let fields = goes_through(&rt, rt.alloc(), TAGGED, 0b1111, 4)?;
     has(&rt, &fields, 0, &[0])?;
     has(
         &rt,
@@ -90,14 +92,14 @@ fn tagged(rt: HostRuntime) -> Result<(), Fail> {
 
 #[test]
 fn untagged(rt: HostRuntime) -> Result<(), Fail> {
-    let fields = goes_through(rt, UNTAGGED, 0b1101, 4)?;
+    let fields = goes_through(&rt, rt.alloc(), UNTAGGED, 0b1101, 4)?;
     has(&rt, &fields, 5, &[0x0800, 0, 0, 0, 0, 4])?;
     has(&rt, &fields, 23, &[0xc001, 53, 12, 0x7492])
 }
 
 #[test]
 fn arp(rt: HostRuntime) -> Result<(), Fail> {
-    let fields = goes_through(rt, ARP, 0b0001, 28)?;
+    let fields = goes_through(&rt, rt.alloc(), ARP, 0b0001, 28)?;
     has(
         &rt,
         &fields,

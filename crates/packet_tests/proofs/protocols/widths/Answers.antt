@@ -16,4 +16,4 @@ abbrev declared : List ℕ
 declared = 8 ∷ 16 ∷ 32 ∷ 16 ∷ 32 ∷ 16 ∷ 3 ∷ 1 ∷ 12 ∷ 16 ∷ 4 ∷ 4 ∷ 6 ∷ 2 ∷ 16 ∷ 16 ∷ 3 ∷ 13 ∷ 8 ∷ 8 ∷ 16 ∷ 32 ∷ 32 ∷ 16 ∷ 16 ∷ 16 ∷ 16 ∷ replicate 37 0
 
 pub invariant_of-result : goal.invariant_of-result
-invariant_of-result c = (narrow declared refl, tt)
+invariant_of-result c = record { narrow = narrow declared refl }
