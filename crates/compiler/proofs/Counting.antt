@@ -1,8 +1,8 @@
 -- Counting fields, and picking choices.
-use Rattle.std.proofs.Common.{◌≡◌, ℕ, zero, suc, ◌+◌, ◌-◌, ◌<◌, ◌≤◌, Bool, true, false, cond, eqb, ltb, List, [], ◌∷◌, ◌++◌, map, length, get_or, drop, sym, refl, ap, ◌∙◌, arith}
+use Rattle.std.proofs.Common.{◌≡◌, ℕ, ◌+◌, ◌<◌, ◌≤◌, cond, eqb, ltb, List, [], ◌∷◌, ◌++◌, map, length, get_or, drop, sym, refl, ap, ◌∙◌, arith}
 use Rattle.std.proofs.lemmas.List.{drop_more, drop_all, map_push, append_assoc, append-nil}
 use Rattle.std.proofs.lemmas.Bool.{ltb-true, ltb-false, eqb-true, eq-eqb, ne_eqb, cond-true, cond-false}
-use Rattle.source.specs.Names.{Entry, fields_of, field_of}
+use Rattle.source.specs.Names.{Entry, fields_of}
 use Rattle.source.specs.Stands.{choice_of}
 use Rattle.source.specs.declared.name.FieldName.{FieldName}
 use Rattle.source.specs.declared.seen.Choice.{Choice}

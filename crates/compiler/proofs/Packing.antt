@@ -1,9 +1,9 @@
 -- A program and what was read of its source.
-use Rattle.std.proofs.Common.{◌≡◌, ℕ, List, [], ◌∷◌, map, sym, refl, ap, ◌∙◌}
+use Rattle.std.proofs.Common.{◌≡◌, ℕ, List, [], ◌∷◌, map, refl}
 use Rattle.model.specs.Declarations.{Declarations}
 use Rattle.model.specs.Statements as statements
 use Rattle.packet.specs.Header.{Header}
-use Rattle.program.specs.Stands.{statement_kind_of, statement_of, statements_of}
+use Rattle.program.specs.Stands.{statement_kind_of, statements_of}
 use Rattle.program.specs.declared.statement.Kind.{Kind}
 use Rattle.program.specs.declared.statement.Kind.TheVariants.{Act, Apply, If, Skip}
 use Rattle.program.specs.declared.statement.Statement.{Statement}

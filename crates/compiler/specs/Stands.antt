@@ -1,5 +1,5 @@
 -- What the code's programs stand for.
-use Rattle.std.specs.Prelude.{ℕ, List, map, vec_items, vec_len}
+use Rattle.std.specs.Prelude.{vec_items, vec_len}
 use Rattle.program.specs.Stands.{declarations_of, statements_of}
 use Rattle.packet.specs.Stands.{headers_of}
 use Rattle.program.specs.declared.headers.Headers.{Headers}

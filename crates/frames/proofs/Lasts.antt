@@ -1,11 +1,11 @@
 -- Bytes that come later do not change what was whole.
-use Rattle.std.proofs.Common.{◌≡◌, ℕ, ltb, List, [], ◌∷◌, ◌++◌, length, take, drop, sym, refl, ap, ◌∙◌, append_assoc}
+use Rattle.std.proofs.Common.{ℕ, ltb, List, [], ◌∷◌, ◌++◌, length, take, drop, sym, refl, ap, ◌∙◌, append_assoc}
 use Rattle.std.proofs.lemmas.Bool.{cond_both}
 use Rattle.frames.specs.declared.kind.Kind.{Kind}
 use Rattle.frames.specs.declared.opening.Opening.{Opening}
 use Rattle.frames.specs.declared.opening.Opening.TheVariants as opening
 use Rattle.frames.specs.Laws.{kind_byte, Followed, Lasting}
-use Rattle.frames.specs.Reading.{Read, Whole, Cut, number, length_bytes, behind_length, behind_kind, opens, opened, read}
+use Rattle.frames.specs.Reading.{Read, Whole, Cut, number, length_bytes, behind_length, behind_kind, opens, opened}
 use Rattle.frames.proofs.Parts.{Parts, parts_at, parts_whole, kind_opens}
 
 -- the parts of a frame stay, and what follows it grows

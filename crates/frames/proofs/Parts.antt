@@ -1,6 +1,6 @@
 -- A whole frame is its kind byte, its length field and its body, and what follows.
-use Rattle.std.proofs.Common.{◌≡◌, ℕ, ◌+◌, ◌<◌, ◌≤◌, Bool, true, false, cond, eqb, ltb, ◌⊎◌, List, [], ◌∷◌, ◌++◌, length, take, drop, sym, refl, ap, ◌∙◌, inl, inr, arith}
-use Rattle.std.proofs.lemmas.List.{take-append-drop, length-append, length-take-le, length-drop, take_at, drop_at}
+use Rattle.std.proofs.Common.{◌≡◌, ℕ, ◌+◌, ◌≤◌, Bool, true, false, cond, ltb, ◌⊎◌, List, [], ◌∷◌, ◌++◌, length, take, drop, refl, ap, ◌∙◌, inl, inr, arith}
+use Rattle.std.proofs.lemmas.List.{take-append-drop, length-append, length-take-le, take_at, drop_at}
 use Rattle.std.proofs.lemmas.Bool.{ltb-false, le-ltb, cond-false}
 use Rattle.std.proofs.lemmas.Bool.Decides.{nat_tests}
 use Rattle.frames.specs.declared.kind.Kind.{Kind}
@@ -8,7 +8,7 @@ use Rattle.frames.specs.declared.kind.Kind.TheVariants.{Source, Update, Packet}
 use Rattle.frames.specs.declared.opening.Opening.{Opening}
 use Rattle.frames.specs.declared.opening.Opening.TheVariants as opening
 use Rattle.frames.specs.Laws.{kind_byte}
-use Rattle.frames.specs.Reading.{Read, Empty, Pause, Whole, Cut, Unknown, number, length_bytes, size, behind_length, behind_kind, opens, opened, read}
+use Rattle.frames.specs.Reading.{Whole, Cut, number, length_bytes, size, behind_length, behind_kind, opens, opened, read}
 
 pub record Parts (k : Kind) (body rest bs : List ℕ) : Type 0 where
   pub field : List ℕ

@@ -1,5 +1,5 @@
 -- A frame as it is written: the length field says the body's length, and what is read covers the input.
-use Rattle.std.proofs.Common.{◌≡◌, ℕ, ◌+◌, ◌*◌, ◌/◌, ◌%◌, ◌^◌, ◌<◌, ◌≤◌, true, false, ltb, ◌⊎◌, List, [], ◌∷◌, ◌++◌, length, take, drop, sym, refl, ap, ◌∙◌, subst, inl, inr, append_assoc, arith}
+use Rattle.std.proofs.Common.{◌≡◌, ℕ, ◌+◌, ◌*◌, ◌/◌, ◌%◌, ◌^◌, ◌<◌, ltb, ◌⊎◌, List, [], ◌∷◌, ◌++◌, length, take, drop, refl, ap, subst, inl, inr, append_assoc, arith}
 use native.Mathlib.Nat.{div-div-eq-div-mul}
 use Rattle.std.proofs.lemmas.Bool.{cases_lt, cond_both}
 use Rattle.std.proofs.lemmas.Bool.Decides.{nat_tests}
@@ -9,7 +9,7 @@ use Rattle.frames.specs.declared.opening.Opening.{Opening}
 use Rattle.frames.specs.declared.opening.Opening.TheVariants as opening
 use Rattle.frames.specs.Answering.{four_bytes}
 use Rattle.frames.specs.Laws.{Bytes, kind_byte, length_field, frame, Covers, Framing, RoundTrip}
-use Rattle.frames.specs.Reading.{Whole, Cut, number, length_bytes, behind_length, opens, opened, read}
+use Rattle.frames.specs.Reading.{Whole, Cut, number, length_bytes, behind_length, opens, opened}
 use Rattle.frames.proofs.Parts.{Parts, opens_framed, parts_at, parts_whole}
 
 -- four bytes hold each number that fits

@@ -3,7 +3,7 @@ use Rattle.std.proofs.Common.{◌≡◌, ℕ, ◌^◌, Bool, true, false, cond, 
 use Rattle.token.specs.declared.token.Sign.TheVariants.{Close, Semicolon, Dot}
 use Rattle.token.specs.Tokens.{Token}
 use Rattle.source.specs.declared.fault.Fault.{Fault}
-use Rattle.source.specs.declared.fault.Fault.TheVariants.{Name, Header, Count}
+use Rattle.source.specs.declared.fault.Fault.TheVariants.{Name, Count}
 use Rattle.source.specs.State
 use Rattle.source.specs.State.{Next, Ends, Later, Never, Choice, Seen, Phase, Item, InHeader, InRoute, InTable, InField, InBody, HeaderPhase, HeaderName, HeaderOpen, FieldName, FieldWidth, FieldEnd, RoutePhase, FirstName, FirstEnd, AfterName, AfterBy, ChoiceValue, ChoiceColon, ChoiceNext, ChoiceEnd, TablePhase, TableName, TableOpen, LookWord, SetsWord, ListStart, LinesWord, Lines, LinesEnd, TableClose, FieldPhase, Named, Behind, Member, Past, BodyPhase, DoOpen, Statement, ApplyName, ApplyEnd, Value, Settle, BehindYes, ElseOpen, Purpose, By, Listed, Target, Tested, Operates, Goal, Change, Ask, Looks, Sets, Block, Do, Yes, No}
 use Rattle.model.specs.Action as action

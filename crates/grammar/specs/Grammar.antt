@@ -1,7 +1,7 @@
 -- The sources that are read, and the program of each.
 use Rattle.std.specs.Prelude.{◌≡◌, true, List, [], ◌∷◌, is_some}
 use Rattle.token.specs.Tokens.{Token}
-use Rattle.source.specs.State.{Seen, Item}
+use Rattle.source.specs.State.{Seen}
 use Rattle.grammar.specs.Syntax as syntax
 use Rattle.grammar.specs.Syntax.{HeaderItem, FirstItem, AfterItem, TableItem, DoItem}
 use Rattle.grammar.specs.Spelling.{source, Fits}

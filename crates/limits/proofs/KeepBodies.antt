@@ -1,5 +1,5 @@
 -- Steps within `do`, and those behind the name of a field, keep what holds.
-use Rattle.std.proofs.Common.{◌≡◌, ℕ, ◌+◌, ltb, List, ◌∷◌, length, set, is_some, Some, None, codes, Option, arith}
+use Rattle.std.proofs.Common.{◌≡◌, ℕ, ◌+◌, ltb, List, ◌∷◌, length, is_some, Some, None, codes, Option, arith}
 use Rattle.model.specs.Action.{Operand, Field}
 use Rattle.token.specs.declared.token.Sign.TheVariants.{Open, Close, Semicolon, Comma, Dot, Is, Equals, Less}
 use Rattle.token.specs.Tokens.{Token}
@@ -8,7 +8,7 @@ use Rattle.source.specs.State.{Fork, Block, Do, Yes, No, Goal, Change, Ask, Purp
 use Rattle.source.specs.Steps.{is_sign, says, number_of}
 use Rattle.source.specs.Using.{has_room_for, add_listed, past, in_field}
 use Rattle.source.specs.Bodies.{holds, opened, closing, innermost, change, ask, settle, statement, behind_yes}
-use Rattle.source.specs.Reading.{operand, in_body}
+use Rattle.source.specs.Reading.{in_body}
 use Rattle.limits.specs.Doing.{OperandLimits}
 use Rattle.limits.proofs.Rows.{found_entry, found_field, found_own}
 use Rattle.limits.proofs.Stepping.{After, goes, stops, if_kept, known_kept, sign_kept, word_kept, number_kept}

@@ -1,13 +1,13 @@
 -- Two different placements never print alike.
-use Rattle.std.proofs.Common.{◌≡◌, ℕ, ◌+◌, ◌*◌, ◌^◌, ◌<◌, Bool, true, false, List, [], ◌∷◌, ◌++◌, length, get_or, codes, decimal, sym, refl, ap, ◌∙◌, ap₂, arith}
+use Rattle.std.proofs.Common.{◌≡◌, ℕ, ◌+◌, ◌*◌, ◌<◌, true, List, [], ◌∷◌, ◌++◌, length, get_or, codes, decimal, sym, refl, ap, ◌∙◌, ap₂, arith}
 use Rattle.std.proofs.lemmas.List.{append_assoc, append_cancel_left}
 use Rattle.std.proofs.lemmas.Bool.{both_ways}
 use Rattle.std.proofs.lemmas.Fmt.{decimal_injective}
-use Rattle.model.specs.Action.{Operand, Field, Number, Test, Equals, Less, Action, Set, Add}
-use Rattle.model.specs.Node.{Does, Halt, Look, Ask, Do, Node}
-use Rattle.listing.specs.Listing.{Names, field_text, operand_text, test_text, does_text, line_at, line_of, listed}
-use Rattle.listing.specs.Alike.{without, digits_only, IsName, Tells, Readable, Small, OperandKnown, TestKnown, ActionKnown, DoesKnown, StageKnown, Known, NeverAlike}
-use Rattle.listing.proofs.Cuts.{cut, without_append, Plain, decimal_plain}
+use Rattle.model.specs.Action.{Operand, Field, Number, Test, Equals, Less, Set, Add}
+use Rattle.model.specs.Node.{Does, Halt, Look, Ask, Do}
+use Rattle.listing.specs.Listing.{Names, field_text, operand_text, test_text, does_text}
+use Rattle.listing.specs.Alike.{without, digits_only, IsName, Readable, Small, OperandKnown, TestKnown, DoesKnown}
+use Rattle.listing.proofs.Cuts.{cut, without_append, decimal_plain}
 
 -- texts that differ at an index are different
 pub differ : {P : Type 0} (i x y : ℕ) (xs ys : List ℕ) → xs ≡ ys → get_or xs i 0 ≡ x → get_or ys i 0 ≡ y → (x ≡ y → ⊥) → P

@@ -1,5 +1,5 @@
 -- Blocks done from top to bottom mean what their tree of paths means.
-use Rattle.std.proofs.Common.{◌≡◌, ℕ, Bool, true, false, cond, refl, ◌∙◌}
+use Rattle.std.proofs.Common.{◌≡◌, true, false, cond, refl, ◌∙◌}
 use Rattle.model.specs.Packet.{Packet}
 use Rattle.model.specs.Declarations.{Declarations}
 use Rattle.model.specs.Action.{passes, act}

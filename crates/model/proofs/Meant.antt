@@ -1,22 +1,21 @@
 -- Every packet leaves after k steps, in order, as meant.
-use Rattle.std.proofs.Common.{◌≡◌, ℕ, zero, suc, ◌+◌, ◌-◌, ◌<◌, ◌≤◌, Bool, true, false, cond, eqb, List, [], ◌∷◌, ◌++◌, length, take, drop, sym, refl, ap, ◌∙◌, subst, ap₂, zero-le, le_refl, add-one, arith}
+use Rattle.std.proofs.Common.{◌≡◌, ℕ, zero, suc, ◌+◌, ◌-◌, ◌≤◌, true, false, cond, eqb, List, [], ◌∷◌, ◌++◌, length, take, drop, sym, refl, ap, ◌∙◌, subst, ap₂, le_refl, add-one, arith}
 use Rattle.std.proofs.lemmas.List.{append-nil}
 use Rattle.std.proofs.lemmas.Bool.{eq-eqb, ne_eqb, cond-true, cond-false}
-use Rattle.model.specs.Packet.{Packet, Departure, departs}
+use Rattle.model.specs.Packet.{Departure, departs}
 use Rattle.model.specs.Declarations.{Declarations}
 use Rattle.model.specs.Table.{Tables}
 use Rattle.model.specs.Paths.{Paths}
 use Rattle.model.specs.Meaning.{means}
 use Rattle.model.specs.Node.{Node}
 use Rattle.model.specs.Version.{Version, Edit, edited_all, updated}
-use Rattle.model.specs.Stage.{Transit, on_stage}
-use Rattle.model.specs.Pipeline.{Slot, Free, Holds, Pipeline, Arrival, Idle, Comes, Event, Step, Update, counted, worked_slot, worked, last_of, but_last, arriving, advance, departing, leaves, takes, renewed, free, run, outputs}
-use Rattle.model.specs.Meant.{History, history, taken_now, meant_for, meant, departs_as, departures}
-use Rattle.model.specs.Sound.{Lays, Layout}
-use Rattle.model.specs.Promises.{version, LeavesAsMeant, AsMeant}
+use Rattle.model.specs.Pipeline.{Slot, Free, Holds, Pipeline, Arrival, Idle, Comes, Event, Step, Update, counted, worked_slot, worked, last_of, but_last, arriving, advance, departing, leaves, renewed, free, run, outputs}
+use Rattle.model.specs.Meant.{history, taken_now, meant_for, meant, departs_as, departures}
+use Rattle.model.specs.Sound.{Layout}
+use Rattle.model.specs.Promises.{version, AsMeant}
 use Rattle.model.proofs.OneStage.{Ready, all_done, stage_work}
 use Rattle.model.proofs.Slots.{worked_length}
-use Rattle.model.proofs.Tracking.{Agrees, agree_run, agree_takes}
+use Rattle.model.proofs.Tracking.{agree_run, agree_takes}
 
 module _ (k : ℕ) where
   -- a slot of stage s holds what a step brought: nothing, or a packet of which so much is left to do as makes it what is meant

@@ -1,13 +1,13 @@
 -- One stage, for one packet: if what is left to do from stage s on means a goal, then so does what is left from the next stage on, after the work of stage s.
-use Rattle.std.proofs.Common.{◌≡◌, ℕ, zero, suc, ◌+◌, ◌<◌, ◌≤◌, Bool, true, false, cond, not, ◌&&◌, eqb, ◌⊎◌, List, length, sym, refl, ap, ◌∙◌, subst, inl, inr, ⊎_elim, zero-le, arith}
+use Rattle.std.proofs.Common.{◌≡◌, ℕ, zero, suc, ◌+◌, ◌≤◌, true, false, cond, ◌&&◌, eqb, List, length, sym, refl, subst, ⊎_elim, zero-le, arith}
 use Rattle.std.proofs.lemmas.Bool.{eq-eqb, ne_eqb, cases_eq}
 use Rattle.model.specs.Packet.{Packet}
-use Rattle.model.specs.Action.{Test, Action, passes, act}
+use Rattle.model.specs.Action.{passes, act}
 use Rattle.model.specs.Paths.{Paths, Stop, Apply, Branch, Act}
 use Rattle.model.specs.Meaning.{means, apply}
 use Rattle.model.specs.Node.{Node, Does, Halt, Look, Ask, Do, node_at, halts}
 use Rattle.model.specs.Version.{Version}
-use Rattle.model.specs.Stage.{Transit, moved, works_on, on_stage}
+use Rattle.model.specs.Stage.{Transit, moved, on_stage}
 use Rattle.model.specs.Sound.{Lays}
 
 -- the laws of a stage, for whatever a node does

@@ -1,7 +1,7 @@
 -- Rows of slots, whatever tells versions apart: their lengths, and what working on them, the last slot and all but the last come to.
-use Rattle.std.proofs.Common.{◌≡◌, ℕ, zero, suc, ◌+◌, List, [], ◌∷◌, length, sym, refl, ap, ◌∙◌, arith}
+use Rattle.std.proofs.Common.{◌≡◌, ℕ, zero, suc, ◌+◌, List, [], ◌∷◌, length, refl, ap, ◌∙◌, arith}
 use Rattle.model.specs.Version.{Version}
-use Rattle.model.specs.Pipeline.{Slot, Free, Holds, Numbering, Pipeline, Arrival, worked_slot, worked, but_last, arriving, advance, free}
+use Rattle.model.specs.Pipeline.{Slot, Pipeline, Arrival, worked, but_last, arriving, advance, free}
 
 module _ {V : Type 0} where
   pub worked_length : (vs : V → Version) (s : ℕ) (xs : List (Slot V)) → length (worked vs s xs) ≡ length xs

@@ -1,8 +1,7 @@
 -- What is in the slots follows from the events alone: the versions of the packets under way are those that the k latest steps brought. So it does whether an update is taken.
-use Rattle.std.proofs.Common.{◌≡◌, ℕ, zero, suc, ◌+◌, ◌<◌, ◌≤◌, Bool, true, false, cond, not, ◌||◌, List, [], ◌∷◌, ◌++◌, length, take, sym, refl, ap, ◌∙◌, subst, ap₂, arith}
-use Rattle.model.specs.Table.{Tables}
+use Rattle.std.proofs.Common.{◌≡◌, ℕ, zero, suc, ◌+◌, Bool, true, false, cond, not, ◌||◌, List, [], ◌∷◌, length, take, refl, ap, ◌∙◌, ap₂}
 use Rattle.model.specs.Version.{Version, Edit, edited_all}
-use Rattle.model.specs.Pipeline.{Slot, Free, Holds, Pipeline, Arrival, Idle, Comes, Event, Step, Update, counted, worked_slot, worked, but_last, arriving, advance, older_slot, any_older, takes, renewed, free, start, run}
+use Rattle.model.specs.Pipeline.{Slot, Free, Holds, Pipeline, Arrival, Idle, Comes, Event, Step, Update, counted, worked_slot, worked, but_last, arriving, advance, older_slot, any_older, takes, renewed, free, run}
 use Rattle.model.specs.Meant.{Came, Nobody, With, History, came_before, any_before, taken_now, brought_by, history}
 use Rattle.model.proofs.Slots.{free_length, advance_length}
 

@@ -1,13 +1,13 @@
 -- A pipeline that keeps two versions, told apart by one bit, does what the one that keeps all does.
-use Rattle.std.proofs.Common.{◌≡◌, ℕ, zero, suc, ◌+◌, ◌<◌, ◌≤◌, Bool, true, false, cond, not, ◌||◌, eqb, ltb, ◌⊎◌, List, [], ◌∷◌, ◌++◌, map, length, sym, refl, ap, ◌∙◌, subst, ap₂, inl, inr, ⊎_elim, le_refl, arith}
+use Rattle.std.proofs.Common.{◌≡◌, ℕ, zero, suc, ◌+◌, ◌≤◌, Bool, true, false, cond, not, ◌||◌, ltb, List, [], ◌∷◌, ◌++◌, map, length, sym, refl, ap, ◌∙◌, ap₂, ⊎_elim, le_refl, arith}
 use mathlib.Core.Bool.{beq}
 use Rattle.std.proofs.lemmas.Bool.{eq-eqb, ne_eqb, lt-ltb, le-ltb, ltb-false, cases_eq, or_parts, not-true}
 use Rattle.model.specs.Packet.{Departure}
 use Rattle.model.specs.Version.{Version, Edit, updated}
-use Rattle.model.specs.Stage.{Transit, on_stage}
+use Rattle.model.specs.Stage.{on_stage}
 use Rattle.model.specs.Pipeline.{Slot, Free, Holds, Pipeline, Arrival, Idle, Comes, Event, Step, Update, counted, one_bit, worked_slot, worked, last_of, but_last, arriving, advance, departing, leaves, older_slot, any_older, takes, renewed, event, free, run, outputs}
 use Rattle.model.specs.TwoVersions.{bit, bit_slot, NewestOrBefore, EachSlot}
-use Rattle.model.specs.Promises.{TwoSuffice, TwoVersionsSuffice}
+use Rattle.model.specs.Promises.{TwoVersionsSuffice}
 
 -- the same by bits as by numbers, for the newest version and the one before
 abbrev Alike : ℕ → (Bool → Version) → (ℕ → Version) → Type 0

@@ -1,5 +1,5 @@
 -- What a program does not change: the fields from a bound on, if it and the tables change only fields below.
-use Rattle.std.proofs.Common.{◌≡◌, ℕ, zero, suc, ◌+◌, ◌%◌, ◌^◌, ◌<◌, ◌≤◌, Bool, true, false, cond, eqb, List, [], ◌∷◌, get_or, refl, ◌∙◌, arith}
+use Rattle.std.proofs.Common.{◌≡◌, ℕ, zero, suc, ◌+◌, ◌%◌, ◌^◌, ◌≤◌, true, false, cond, eqb, List, [], ◌∷◌, get_or, refl, ◌∙◌, arith}
 use Rattle.std.proofs.lemmas.Bool.{ne_eqb, cond-false, cond_both}
 use Rattle.model.specs.Packet.{Packet, put}
 use Rattle.model.specs.Declarations.{Declarations}

@@ -1,13 +1,13 @@
 -- When an update is refused, and for how long.
-use Rattle.std.proofs.Common.{◌≡◌, ℕ, zero, suc, ◌+◌, ◌<◌, ◌≤◌, Bool, true, false, cond, not, ◌||◌, ltb, ◌⊎◌, List, [], ◌∷◌, ◌++◌, length, get_or, take, sym, refl, ap, ◌∙◌, subst, inl, inr, ⊎_elim, suc-le-suc, zero-le, le_refl, arith}
-use Rattle.std.proofs.lemmas.Bool.{ltb-true, lt-ltb, le-ltb, or_cases, or_right, or_left, or_parts, or_from, not-false, not_from_true, not_from_false, cases_Bool}
+use Rattle.std.proofs.Common.{◌≡◌, ℕ, zero, suc, ◌<◌, ◌≤◌, true, false, cond, ltb, List, [], ◌∷◌, ◌++◌, length, get_or, take, sym, refl, ap, ◌∙◌, ⊎_elim, suc-le-suc, zero-le, le_refl, arith}
+use Rattle.std.proofs.lemmas.Bool.{ltb-true, lt-ltb, le-ltb, or_cases, or_right, or_left, or_parts, or_from, not-false, not_from_true, not_from_false}
 use Rattle.model.specs.Table.{Tables}
-use Rattle.model.specs.Version.{Version, Edit, edited_all}
+use Rattle.model.specs.Version.{Version, edited_all}
 use Rattle.model.specs.Stage.{Transit}
-use Rattle.model.specs.Pipeline.{Slot, Free, Holds, Pipeline, Arrival, Idle, Comes, Event, Step, Update, counted, older_slot, any_older, takes, run}
-use Rattle.model.specs.Meant.{Came, Nobody, With, History, came_before, any_before, taken_now, brought_by, history, steps_in}
-use Rattle.model.specs.Promises.{OldPacketIn, UpdatesTaken, Updates}
-use Rattle.model.proofs.Tracking.{Agrees, agree_run, taken_by_events}
+use Rattle.model.specs.Pipeline.{Slot, Free, Holds, Arrival, Idle, Comes, Event, Step, Update, counted, older_slot, any_older, takes, run}
+use Rattle.model.specs.Meant.{Came, came_before, any_before, taken_now, brought_by, history, steps_in}
+use Rattle.model.specs.Promises.{Updates}
+use Rattle.model.proofs.Tracking.{agree_run, taken_by_events}
 
 -- a slot of the row that holds a packet of a version before the newest
 abbrev OldIn : ℕ → List (Slot ℕ) → Type 0

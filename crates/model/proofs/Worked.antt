@@ -1,5 +1,5 @@
 -- The worked cases, by computing.
-use Rattle.std.proofs.Common.{◌≡◌, refl}
+use Rattle.std.proofs.Common.{refl}
 use Rattle.model.specs.Promises.{WorkedCases}
 use Rattle.model.specs.Action.{acts}
 use Rattle.model.specs.Table.{fits, first_fit}

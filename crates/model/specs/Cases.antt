@@ -2,12 +2,12 @@
 use Rattle.std.specs.Prelude.{ℕ, zero, suc, Bool, true, false, cond, List, [], ◌∷◌, ◌++◌}
 use Rattle.model.specs.Packet.{Packet, Departure, put}
 use Rattle.model.specs.Declarations.{Declarations, Ternary}
-use Rattle.model.specs.Action.{Test, Equals, Action, Set, Number, act}
-use Rattle.model.specs.Table.{Pattern, Entry, chosen}
+use Rattle.model.specs.Action.{Test, Equals, Set, Number, act}
+use Rattle.model.specs.Table.{Entry, chosen}
 use Rattle.model.specs.Paths.{Paths, Stop}
-use Rattle.model.specs.Blocks.{Block, Done, Table, If, paths_of}
+use Rattle.model.specs.Blocks.{Done, Table, If, paths_of}
 use Rattle.model.specs.Node.{Node, Halt, Look, Ask, node}
-use Rattle.model.specs.Version.{Version, Edit, Replace, empty}
+use Rattle.model.specs.Version.{Version, Replace, empty}
 use Rattle.model.specs.Pipeline.{Idle, Comes, Event, Step, Update, counted, leaves, takes, run, outputs}
 use Rattle.model.specs.Answer.{code_of, answered}
 use Rattle.model.specs.Meant.{steps_in}

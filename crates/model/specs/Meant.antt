@@ -1,5 +1,5 @@
 -- What is meant, by the events alone: which updates are taken, the tables as they stand at each step, and what each packet becomes. No pipeline, no nodes.
-use Rattle.std.specs.Prelude.{ℕ, zero, suc, Bool, false, cond, not, ◌||◌, List, [], ◌∷◌, ◌++◌, take, nat_lt}
+use Rattle.std.specs.Prelude.{ℕ, suc, Bool, false, cond, not, ◌||◌, List, [], ◌∷◌, ◌++◌, take, nat_lt}
 use Rattle.model.specs.Packet.{Departure, departs}
 use Rattle.model.specs.Declarations.{Declarations}
 use Rattle.model.specs.Table.{Tables}

@@ -1,5 +1,5 @@
 -- The pipeline: a slot for each stage, packets that follow one another through them, and versions that change under way.
-use Rattle.std.specs.Prelude.{ℕ, zero, suc, ◌+◌, Bool, true, false, cond, not, ◌||◌, List, [], ◌∷◌, ◌++◌, length, nat_eq, nat_lt}
+use Rattle.std.specs.Prelude.{ℕ, zero, suc, ◌+◌, Bool, false, cond, not, ◌||◌, List, [], ◌∷◌, ◌++◌, length, nat_eq, nat_lt}
 use Rattle.std.specs.Bool.{beq}
 use Rattle.model.specs.Packet.{Packet, Departure, departs}
 use Rattle.model.specs.Version.{Version, Edit, updated}

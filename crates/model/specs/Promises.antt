@@ -1,5 +1,5 @@
 -- The promises over the model. Each is a statement; a function of src/lib.rt has it for its contract, so that it is proved.
-use Rattle.std.specs.Prelude.{◌≡◌, ℕ, zero, suc, ◌-◌, ◌<◌, ◌≤◌, Bool, true, false, ◌↔◌, List, [], ◌∷◌, ◌++◌, map, length, take, drop, slice_index_or}
+use Rattle.std.specs.Prelude.{◌≡◌, ℕ, suc, ◌-◌, ◌<◌, ◌≤◌, Bool, true, false, ◌↔◌, List, [], ◌∷◌, ◌++◌, map, length, take, drop, slice_index_or}
 use mathlib.Core.List.{Memᴰ}
 use Rattle.model.specs.Packet.{Packet, Departure, departs}
 use Rattle.model.specs.Declarations.{Declarations}
@@ -9,13 +9,13 @@ use Rattle.model.specs.Meaning.{means}
 use Rattle.model.specs.Blocks.{Block, paths_of, done}
 use Rattle.model.specs.Statements.{program_of, row_of}
 use Rattle.model.specs.Node.{Node}
-use Rattle.model.specs.Version.{Version, Edit}
+use Rattle.model.specs.Version.{Version}
 use Rattle.model.specs.Stage.{Transit}
-use Rattle.model.specs.Pipeline.{Slot, Free, Holds, Pipeline, Arrival, Idle, Comes, Event, Step, Update, counted, one_bit, leaves, takes, run, outputs}
-use Rattle.model.specs.Meant.{History, history, taken_now, meant, departures, steps_in}
+use Rattle.model.specs.Pipeline.{Free, Holds, Pipeline, Comes, Event, Step, counted, one_bit, leaves, takes, run, outputs}
+use Rattle.model.specs.Meant.{history, taken_now, meant, departures, steps_in}
 use Rattle.model.specs.Sound.{Layout}
 use Rattle.model.specs.Placement.{plain_rule, rule, nodes_on, tables_on, most_nodes, most_tables, has_room, within, tables_behind, limited}
-use Rattle.model.specs.Stopping.{Verdict, Placed, Refused, placement, stopped, misplaced, offsets}
+use Rattle.model.specs.Stopping.{Placed, Refused, placement, stopped, misplaced, offsets}
 use Rattle.model.specs.TwoVersions.{bit, bit_slot, NewestOrBefore, EachSlot}
 use Rattle.model.specs.Untouched.{Every, TablesBelow, PathsBelow, EventBelow}
 use Rattle.model.specs.Cases.{Case, cases}

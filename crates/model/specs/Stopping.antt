@@ -1,9 +1,8 @@
 -- Which programs the placement rule takes, where a refusal points, and placement that stops: as much work as there may be nodes, however many paths there are.
 use Rattle.std.specs.Prelude.{ℕ, zero, suc, ◌+◌, min, Bool, true, false, cond, List, [], ◌∷◌, ◌++◌, length, nat_lt, slice_set}
-use Rattle.model.specs.Action.{Test}
 use Rattle.model.specs.Paths.{Paths, Stop, Apply, Branch, Act}
 use Rattle.model.specs.Node.{Node, Halt, Look, Ask, Do, node, in_place}
-use Rattle.model.specs.Placement.{Finder, limited, table_from, still_changed, rule}
+use Rattle.model.specs.Placement.{limited, table_from, still_changed, rule}
 
 -- the row of a program that is taken, or the offset of one that is refused
 pub data Verdict : Type 0 where

@@ -1,5 +1,5 @@
 -- Two versions in place of all: what a slot, a row of slots and a version number are, told by one bit.
-use Rattle.std.specs.Prelude.{ℕ, zero, suc, ◌≤◌, Bool, false, not, List, [], ◌∷◌, map}
+use Rattle.std.specs.Prelude.{ℕ, zero, suc, ◌≤◌, Bool, false, not, List, [], ◌∷◌}
 use Rattle.model.specs.Pipeline.{Slot, Free, Holds}
 
 -- a version by one bit: every second one has the same

@@ -1,12 +1,12 @@
 -- One step: what comes is admitted at the spare place, and all slots are worked on and move on.
-use Rattle.std.proofs.Common.{◌≡◌, ℕ, ◌<◌, Bool, true, List, [], ◌∷◌, ◌++◌, length, sym, refl, ap, ◌∙◌, subst, ap₂}
+use Rattle.std.proofs.Common.{◌≡◌, ℕ, ◌<◌, Bool, true, List, [], ◌∷◌, ◌++◌, length, sym, ap, ◌∙◌, subst}
 use Rattle.std.proofs.lemmas.List.{length-map}
 use Rattle.std.proofs.lemmas.Bool.{and_parts}
 use Rattle.model.specs.Version.{Version}
 use Rattle.model.specs.Pipeline as model
 use Rattle.model.proofs.Slots.{worked_length}
 use Rattle.pipeline.specs.Apart.{apart, distinct}
-use Rattle.pipeline.specs.Stands.{View, store_of, place_of, places_of, slot_of, slots_of}
+use Rattle.pipeline.specs.Stands.{View, place_of, places_of, slot_of, slots_of}
 use Rattle.pipeline.specs.declared.slot.Slot.{Slot}
 use Rattle.pipeline.proofs.Shift.{Elsewhere, slots_same, distinct_turned}
 use Rattle.pipeline.proofs.Shifted.{shifted_row, shifted_last}

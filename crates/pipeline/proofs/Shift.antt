@@ -1,11 +1,11 @@
 -- A turn of the loop over the slots: one slot is worked on at its own place, and all others stay.
-use Rattle.std.proofs.Common.{◌≡◌, ℕ, zero, suc, ◌+◌, ◌<◌, ◌≤◌, Bool, true, false, not, ◌&&◌, eqb, List, [], ◌∷◌, ◌++◌, map, length, get_or, take, drop, set, sym, refl, ap, ◌∙◌, subst, ap₂, arith}
-use Rattle.std.proofs.lemmas.List.{append_assoc, append-nil, map-append, take_more_set, drop_more, drop-set-lt, take_all, drop_all, length-set}
+use Rattle.std.proofs.Common.{◌≡◌, ℕ, ◌+◌, ◌<◌, ◌≤◌, Bool, true, not, eqb, List, [], ◌∷◌, ◌++◌, length, get_or, take, drop, set, sym, refl, ap, ◌∙◌, subst, ap₂, arith}
+use Rattle.std.proofs.lemmas.List.{append_assoc, map-append, take_more_set, drop_more, drop-set-lt, take_all, drop_all}
 use Rattle.std.proofs.lemmas.Bool.{eqb-false, not-true, and_parts, and_from, ne_eqb, not_from_false}
 use Rattle.model.specs.Version.{Version}
 use Rattle.model.specs.Pipeline as model
 use Rattle.pipeline.specs.Apart.{apart, distinct}
-use Rattle.pipeline.specs.Stands.{transit, View, store_of, place_of, places_of, slot_of, slots_of}
+use Rattle.pipeline.specs.Stands.{transit, View, place_of, places_of, slot_of, slots_of}
 use Rattle.pipeline.specs.declared.slot.Slot.{Slot}
 use Rattle.pipeline.specs.declared.slot.Slot.TheVariants.{Free, Holds}
 

@@ -1,11 +1,8 @@
 -- From the slots behind a step to the model's step: all but the last, and the last.
-use Rattle.std.proofs.Common.{◌≡◌, ℕ, zero, suc, ◌+◌, ◌<◌, ◌≤◌, Bool, true, false, ◌||◌, List, [], ◌∷◌, ◌++◌, map, length, get_or, drop, sym, refl, ap, ◌∙◌, subst, ap₂, arith}
+use Rattle.std.proofs.Common.{◌≡◌, ℕ, ◌+◌, ◌<◌, ◌≤◌, Bool, false, ◌||◌, List, [], ◌∷◌, ◌++◌, length, get_or, drop, sym, refl, ap, ◌∙◌, arith}
 use Rattle.std.proofs.lemmas.List.{drop_more, drop_all}
-use Rattle.std.proofs.lemmas.Bool.{or_left}
-use Rattle.model.specs.Version.{Version}
-use Rattle.model.specs.Pipeline.{Slot, Free, one_bit, last_of, but_last, worked, older_slot, any_older}
-use Rattle.model.proofs.Slots.{worked_length}
-use Rattle.pipeline.specs.Stands.{View, store_of, slot_of, slots_of}
+use Rattle.model.specs.Pipeline.{Slot, one_bit, last_of, but_last, older_slot, any_older}
+use Rattle.pipeline.specs.Stands.{View, slot_of, slots_of}
 use Rattle.pipeline.specs.declared.slot.Slot as code
 
 but_last_push : (xs : List (Slot Bool)) (c : Slot Bool) → but_last (xs ++ (c ∷ [])) ≡ xs

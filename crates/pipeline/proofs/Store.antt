@@ -1,20 +1,17 @@
 -- The store: what a write at one place makes of it, and the work of a stage on a slot's packet at its place.
-use Rattle.std.proofs.Common.{◌≡◌, ℕ, ◌<◌, Bool, true, false, List, [], ◌∷◌, map, length, get_or, set, vec_items, sym, refl, ap, ◌∙◌, subst, ap₂}
+use Rattle.std.proofs.Common.{◌≡◌, ℕ, ◌<◌, Bool, true, false, List, map, length, get_or, set, vec_items, sym, refl, ap, ◌∙◌, subst, ap₂}
 use mathlib.Core.Bool.{beq}
 use Rattle.std.proofs.lemmas.List.{get_or-map, length-map, map-set, get_or-set_same, get_or-set_other}
 use Rattle.model.specs.Packet as packet
 use Rattle.model.specs.Stage.{Transit, on_stage}
-use Rattle.model.specs.Version.{Version}
 use Rattle.model.specs.Pipeline as model
-use Rattle.program.specs.Stands.{over, node_of, nodes_of}
+use Rattle.program.specs.Stands.{over, node_of}
 use Rattle.program.specs.declared.field.Fields.{Fields}
 use Rattle.table.specs.declared.store.Tables.{Tables}
-use Rattle.pipeline.specs.Stands.{transit, version_of, versions_of, payload_of, packet_of, View, view_of, nothing, store_of, slot_of}
+use Rattle.pipeline.specs.Stands.{transit, version_of, versions_of, payload_of, packet_of, View, view_of, nothing, store_of}
 use Rattle.pipeline.specs.declared.loaded.Loaded.{Loaded}
 use Rattle.pipeline.specs.declared.packet.Stored.{Stored}
 use Rattle.pipeline.specs.declared.slot.Place.{Place}
-use Rattle.pipeline.specs.declared.slot.Slot.{Slot}
-use Rattle.pipeline.specs.declared.slot.Slot.TheVariants.{Free, Holds}
 
 pub store_at : (ss : List Stored) (i : ℕ) (d : Stored) → i < length ss → store_of ss i ≡ view_of (get_or ss i d)
 store_at ss i d h = get_or-map view_of ss i d nothing h

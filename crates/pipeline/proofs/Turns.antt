@@ -1,11 +1,10 @@
 -- The turns of the loop on a stage.
-use Rattle.std.proofs.Common.{◌≡◌, ℕ, zero, suc, ◌+◌, ◌-◌, ◌<◌, ◌≤◌, Bool, true, false, cond, List, [], ◌∷◌, map, length, get_or, sym, refl, ap, ◌∙◌, arith}
+use Rattle.std.proofs.Common.{◌≡◌, ℕ, zero, suc, ◌-◌, ◌<◌, ◌≤◌, true, false, List, length, get_or, sym, refl, ap, ◌∙◌, arith}
 use Rattle.std.proofs.lemmas.List.{get_or-map, get_or_past, length-map}
 use Rattle.model.specs.Packet.{Packet}
 use Rattle.model.specs.Node as model
 use Rattle.model.specs.Version.{Version}
 use Rattle.model.specs.Stage.{Transit, moved, works_on, on_stage}
-use Rattle.model.proofs.OneStage.{stage_halts}
 use Rattle.program.specs.Stands.{node_of, nodes_of}
 use Rattle.program.specs.declared.node.Node.{Node}
 

@@ -1,5 +1,5 @@
 -- What a pipeline of the code stands for: a pipeline of the model whose versions are told apart by one bit.
-use Rattle.std.specs.Prelude.{ℕ, Bool, List, [], ◌∷◌, vec_items}
+use Rattle.std.specs.Prelude.{Bool, List, [], ◌∷◌, vec_items}
 use Rattle.model.specs.Packet as packet
 use Rattle.model.specs.Answer as answer
 use Rattle.model.specs.Pipeline as model

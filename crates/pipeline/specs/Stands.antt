@@ -1,5 +1,5 @@
 -- What the pipeline's values stand for in the model. Every function is total.
-use Rattle.std.specs.Prelude.{ℕ, Bool, false, List, [], ◌∷◌, map, take, vec_items, slice_index_or}
+use Rattle.std.specs.Prelude.{ℕ, Bool, false, List, map, take, vec_items, slice_index_or}
 use Rattle.std.specs.Bool.{beq}
 use Rattle.model.specs.Packet as packet
 pub use Rattle.model.specs.Packet.{besides}

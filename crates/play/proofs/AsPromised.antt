@@ -1,13 +1,12 @@
 -- A pipeline with a sound layout gives, event by event, what is promised.
-use Rattle.std.proofs.Common.{◌≡◌, ℕ, suc, ◌<◌, Bool, true, ◌↔◌, List, [], ◌∷◌, ◌++◌, take, drop, sym, refl, ap, ◌∙◌, subst, ap₂, arith, lit<}
+use Rattle.std.proofs.Common.{◌≡◌, Bool, List, [], ◌∷◌, ◌++◌, sym, refl, ap, ◌∙◌, ap₂}
 use Rattle.model.specs.Packet.{Departure}
 use Rattle.model.specs.Declarations.{Declarations}
 use Rattle.model.specs.Paths.{Paths}
 use Rattle.model.specs.Node.{Node}
-use Rattle.model.specs.Version.{Version, empty}
-use Rattle.model.specs.Pipeline.{Pipeline, Event, Step, Update, one_bit, counted, run, start, leaves, takes, event}
+use Rattle.model.specs.Version.{empty}
+use Rattle.model.specs.Pipeline.{Pipeline, Event, Step, Update, one_bit, run, start, event}
 use Rattle.model.specs.Answer.{answered}
-use Rattle.model.specs.Meant.{history, taken_now, meant, departures}
 use Rattle.model.specs.Sound.{Layout}
 use Rattle.model.specs.Promises.{version}
 use Rattle.model.proofs.Promised.{next_promised, answer_promised}

@@ -1,19 +1,16 @@
 -- Sources that are taken are those of the grammar that the rule places.
-use Rattle.std.proofs.Common.{◌≡◌, ℕ, Bool, true, false, List, [], ◌∷◌, get_or, sym, refl, ap, ◌∙◌, arith}
-use Rattle.std.proofs.lemmas.Bool.{false≢true}
-use Rattle.model.specs.Node.{Node}
+use Rattle.std.proofs.Common.{◌≡◌, ℕ, List, get_or, refl, ap, ◌∙◌, arith}
 use Rattle.model.specs.Stopping as stopping
 use Rattle.model.specs.Stopping.{Placed, placement}
-use Rattle.token.specs.Tokens.{tokens}
 use Rattle.source.specs.Faults.{answer_of}
 use Rattle.source.specs.Reading.{Outcome, taken, refused, read_source}
 use Rattle.source.specs.State.{Seen}
 use Rattle.source.specs.declared.fault.Fault.{Fault}
 use Rattle.source.specs.declared.fault.Fault.TheVariants.{Unawaited, Name, Range, Header, Depth, Twice, Count, Memory}
 use Rattle.grammar.proofs.Reading.{reads_the_grammar}
-use Rattle.compiler.specs.Program.{Program, paths_of}
+use Rattle.compiler.specs.Program.{paths_of}
 use Rattle.compiler.specs.Packaging.{packaged}
-use Rattle.compiler.specs.Compiling.{Compiled, Accepted, Refused, placed, after_reading, compiled}
+use Rattle.compiler.specs.Compiling.{placed, after_reading}
 use Rattle.stream.specs.Answering.{load_writes}
 use Rattle.stream.specs.Writing.{told}
 use Rattle.promise.specs.Accepting.{Placeable, TakenIfPlaceable}

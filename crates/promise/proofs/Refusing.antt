@@ -1,17 +1,15 @@
 -- A frame that is refused leaves the switch as it was.
-use Rattle.std.proofs.Common.{◌≡◌, ℕ, ◌<◌, Bool, true, false, cond, List, [], ◌∷◌, ◌++◌, get_or, Result, sym, refl, ap, ◌∙◌, arith}
+use Rattle.std.proofs.Common.{◌≡◌, ℕ, ◌<◌, Bool, true, false, cond, List, ◌∷◌, ◌++◌, get_or, refl, ap, ◌∙◌, arith}
 use Rattle.std.proofs.lemmas.List.{append_assoc}
-use Rattle.std.proofs.lemmas.Bool.{cond-true, cond-false}
 use Rattle.model.specs.Version.{Edit}
 use Rattle.model.specs.Pipeline as pipe
 use Rattle.model.specs.Pipeline.{Pipeline, one_bit, takes, renewed, leaves, advance}
-use Rattle.packet.specs.Contents.{Contents, code}
+use Rattle.packet.specs.Contents.{code}
 use Rattle.packet.specs.declared.parsed.Refused as packet
 use Rattle.packet.specs.declared.parsed.Refused.TheVariants.{EndsWithinHeader, TooLong}
 use Rattle.update.specs.Decoded as decoded
 use Rattle.compiler.specs.Compiling.{Compiled, Accepted, Refused, compiled}
-use Rattle.compiler.specs.Program.{Format}
-use Rattle.stream.specs.Answering.{Mode, Unloaded, Running, Stopped, decode, take_apart, brings, refusal, load_writes, loaded, update_writes, updated, writes, next, answers}
+use Rattle.stream.specs.Answering.{Mode, Unloaded, Running, Stopped, decode, brings, refusal, load_writes, loaded, update_writes, updated, writes, next, answers}
 use Rattle.stream.specs.Frames.{Frame, Source, Update, Packet, Pause}
 use Rattle.stream.specs.Machines.{pipeline}
 use Rattle.stream.specs.Writing.{told, refused, sent_all}

@@ -1,6 +1,6 @@
 -- With another packet in the place of one, frame by frame.
-use Rattle.std.proofs.Common.{◌≡◌, ℕ, zero, suc, ◌+◌, ◌-◌, ◌<◌, ◌≤◌, Bool, true, false, cond, ◌⊎◌, List, [], ◌∷◌, ◌++◌, length, take, drop, Ok, Result, sym, refl, ap, ◌∙◌, ap₂, inl, inr, arith}
-use Rattle.std.proofs.lemmas.List.{append_assoc, append-nil, drop-append-le, length-drop, take-append-le, drop_at}
+use Rattle.std.proofs.Common.{◌≡◌, ℕ, ◌-◌, ◌<◌, ◌≤◌, Bool, List, [], ◌∷◌, ◌++◌, length, take, drop, Ok, Result, sym, refl, ap, ◌∙◌, ap₂, inl, inr, arith}
+use Rattle.std.proofs.lemmas.List.{append_assoc, drop-append-le, length-drop, take-append-le, drop_at}
 use Rattle.std.proofs.lemmas.Bool.{cases_lt}
 use Rattle.model.specs.Packet as model
 use Rattle.model.specs.Packet.{Departure, departs}
@@ -9,17 +9,17 @@ use Rattle.model.specs.Meaning.{means}
 use Rattle.model.specs.Version.{empty}
 use Rattle.model.specs.Pipeline as pipe
 use Rattle.model.specs.Pipeline.{Event, Step, Arrival, Comes, Idle}
-use Rattle.model.specs.Meant.{History, history, taken_now, meant, departures, steps_in}
+use Rattle.model.specs.Meant.{history, taken_now, meant, departures, steps_in}
 use Rattle.model.proofs.Undisturbed.{history_same, meant_later, meant_split, later_length, later_same, drop_past}
 use Rattle.packet.specs.Carrying.{carried}
 use Rattle.packet.specs.Contents.{Contents}
 use Rattle.packet.specs.declared.parsed.Refused as packet
 use Rattle.update.specs.Decoded as decoded
 use Rattle.compiler.specs.Program.{Program, Format, paths_of}
-use Rattle.stream.specs.Answering.{Mode, Unloaded, Running, Stopped, decode, take_apart, brings, refusal, update_writes, updated, writes, next, answers, behind}
+use Rattle.stream.specs.Answering.{Mode, Unloaded, Running, decode, take_apart, brings, refusal, update_writes, updated, writes, next, answers, behind}
 use Rattle.stream.specs.Frames.{Frame, Source, Update, Packet, Pause, Unknown, Starved}
 use Rattle.stream.specs.Machines.{pipeline, Past, twelve_later}
-use Rattle.stream.specs.Writing.{told, refused, sent_all}
+use Rattle.stream.specs.Writing.{told, sent_all}
 use Rattle.stream.proofs.AsMeant.{frames_as_meant}
 use Rattle.promise.specs.Others.{OnlyThere, same, differs, own_frame, OthersUndisturbed}
 

@@ -1,5 +1,5 @@
 -- A packet shows nowhere but in its own frame.
-use Rattle.std.specs.Prelude.{◌≡◌, ℕ, Bool, List, ◌∷◌, ◌++◌, Ok}
+use Rattle.std.specs.Prelude.{◌≡◌, ℕ, List, ◌∷◌, ◌++◌, Ok}
 use Rattle.model.specs.Meaning.{means}
 use Rattle.model.specs.Meant.{history}
 use Rattle.model.specs.Packet.{departs}
@@ -7,7 +7,7 @@ use Rattle.model.specs.Version.{empty}
 use Rattle.packet.specs.Carrying.{carried}
 use Rattle.packet.specs.Contents.{Contents}
 use Rattle.compiler.specs.Program.{Format, paths_of}
-use Rattle.stream.specs.Answering.{Mode, Unloaded, Running, take_apart, answers, behind}
+use Rattle.stream.specs.Answering.{Unloaded, Running, take_apart, answers, behind}
 use Rattle.stream.specs.Frames.{Frame, Packet}
 use Rattle.stream.specs.Machines.{pipeline, Past, twelve_later}
 use Rattle.stream.specs.Writing.{sent_all}

@@ -1,9 +1,9 @@
 -- Frames that are refused change nothing.
-use Rattle.std.specs.Prelude.{◌≡◌, ℕ, ◌<◌, Bool, List, [], ◌∷◌, ◌++◌, Err}
+use Rattle.std.specs.Prelude.{◌≡◌, ℕ, ◌<◌, Bool, List, ◌∷◌, ◌++◌, Err}
 use Rattle.model.specs.Pipeline.{Pipeline}
 use Rattle.packet.specs.declared.parsed.Refused as packet
 use Rattle.compiler.specs.Program.{Format}
-use Rattle.stream.specs.Answering.{Mode, Unloaded, Running, Stopped, take_apart, writes, answers}
+use Rattle.stream.specs.Answering.{Mode, Unloaded, Running, take_apart, writes, answers}
 use Rattle.stream.specs.Frames.{Frame, Source, Update, Packet, Pause}
 use Rattle.stream.specs.Machines.{pipeline}
 use Rattle.stream.specs.Writing.{told, refused}

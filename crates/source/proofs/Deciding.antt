@@ -1,10 +1,10 @@
 -- A fault is decided by the tokens up to the one at which reading stopped.
-use Rattle.std.proofs.Common.{◌≡◌, ℕ, Bool, true, false, cond, List, [], ◌∷◌, ◌++◌, sym, refl, ap, ◌∙◌, arith}
+use Rattle.std.proofs.Common.{◌≡◌, ℕ, Bool, true, false, cond, List, [], ◌∷◌, ◌++◌, refl, ap, ◌∙◌, arith}
 use Rattle.token.specs.Tokens.{Token, tokens}
 use Rattle.source.specs.declared.fault.Fault.{Fault}
 use Rattle.source.specs.State.{Phase, Item, Seen, nothing}
 use Rattle.source.specs.Steps.{Step, go, stop, is_end}
-use Rattle.source.specs.Reading.{step, Outcome, taken, refused, onward, run}
+use Rattle.source.specs.Reading.{step, taken, refused, onward, run}
 use Rattle.source.specs.Laws.{Decided, FaultsAreDecided}
 
 never : {A : Type 0} (d : Seen) (f : Fault) → taken d ≡ refused f → A

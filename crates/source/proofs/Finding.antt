@@ -1,14 +1,12 @@
 -- Comparing words, and the steps of the searches for names.
-use Rattle.std.proofs.Common.{◌≡◌, ℕ, ◌+◌, ◌<◌, ◌≤◌, Bool, true, false, cond, ◌&&◌, eqb, List, [], ◌∷◌, ◌++◌, map, length, get_or, take, drop, is_some, Some, None, Decides, Option, sym, refl, ap, ◌∙◌, rules}
+use Rattle.std.proofs.Common.{◌≡◌, ℕ, ◌+◌, ◌<◌, ◌≤◌, Bool, true, false, cond, ◌&&◌, eqb, List, map, length, get_or, drop, is_some, Some, None, Decides, Option, sym, refl, ap, ◌∙◌, rules}
 use Rattle.std.specs.Str.{bytes_eq}
-use Rattle.std.proofs.lemmas.Slice.Eq.{bytes_eq-Decides, slice_eq-Decides}
+use Rattle.std.proofs.lemmas.Slice.Eq.{bytes_eq-Decides}
 use Rattle.std.proofs.lemmas.List.{drop_more, drop_all}
 use Rattle.std.proofs.lemmas.Bool.{false≢true}
 use Rattle.program.specs.declared.field.FieldNo.{FieldNo}
-use Rattle.source.specs.declared.name.HeaderName.{HeaderName}
 use Rattle.source.specs.declared.name.FieldName.{FieldName}
-use Rattle.source.specs.declared.name.TableName.{TableName}
-use Rattle.source.specs.Names.{Entry, Field, find, find_in, only_behind, only, name_of, header_of, table_of, field_of, field_number}
+use Rattle.source.specs.Names.{Entry, find, find_in, only_behind, name_of, field_of, field_number}
 
 pub same_test : (xs ys : List ℕ) (r : Bool) → Decides r (xs ≡ ys) → r ≡ bytes_eq xs ys
 same_test xs ys r h = search (rules, bytes_eq-Decides)

@@ -1,11 +1,10 @@
 -- Steps that are given by other steps, room for one more, and one more at the end of a list.
-use Rattle.std.proofs.Common.{◌≡◌, ℕ, zero, suc, ◌+◌, ◌<◌, ◌≤◌, Bool, true, false, cond, ltb, ◌⊎◌, List, [], ◌∷◌, ◌++◌, map, reverse, length, get_or, set, is_some, Some, None, Ok, Err, Option, Result, sym, refl, ap, ◌∙◌, inl, inr}
-use Rattle.std.proofs.lemmas.List.{map_push, map-set, length-map, length-reverse, reverse-append, append-nil, nil_from_length, set_past}
+use Rattle.std.proofs.Common.{◌≡◌, ℕ, zero, suc, ◌<◌, ◌≤◌, false, ltb, List, [], ◌∷◌, ◌++◌, map, length, get_or, set, is_some, Some, None, Ok, Err, Option, Result, sym, refl, ap, ◌∙◌, inl, inr}
+use Rattle.std.proofs.lemmas.List.{map_push, reverse-append, append-nil, nil_from_length}
 use Rattle.std.proofs.lemmas.Bool.{cond-true, cond-false, lt-ltb, le-ltb}
 use Rattle.source.specs.declared.fault.Fault.{Fault}
 use Rattle.source.specs.declared.fault.Fault.TheVariants.{Count}
-use Rattle.source.specs.Steps.{Step, go, stop, or_count, room}
-use Rattle.source.specs.declared.fault.Fault.TheVariants as fault
+use Rattle.source.specs.Steps.{Step, stop, or_count, room}
 use Rattle.source.specs.declared.phase.Phase.{Phase}
 use Rattle.source.specs.declared.seen.Seen.{Seen}
 use Rattle.std.specs.Option.{option_to_list}

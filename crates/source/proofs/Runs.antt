@@ -1,5 +1,5 @@
 -- The steps of the loops over choices and over tokens.
-use Rattle.std.proofs.Common.{◌≡◌, ℕ, zero, suc, ◌+◌, ◌<◌, ◌≤◌, Bool, true, false, cond, List, [], ◌∷◌, map, length, get_or, drop, replicate, is_some, Some, None, Option, sym, refl, ap, ◌∙◌, arith}
+use Rattle.std.proofs.Common.{◌≡◌, ℕ, zero, suc, ◌+◌, ◌<◌, ◌≤◌, Bool, true, false, cond, List, ◌∷◌, map, length, get_or, drop, replicate, is_some, Some, None, Option, sym, refl, ap, ◌∙◌, arith}
 use Rattle.std.proofs.lemmas.List.{drop_more, drop_all, get_or-map}
 use Rattle.std.proofs.lemmas.Bool.{false≢true}
 use Rattle.program.specs.declared.field.FieldNo.{FieldNo}
@@ -9,7 +9,7 @@ use Rattle.source.specs.declared.seen.Choice.{Choice}
 use Rattle.source.specs.Names.{Entry, field_number}
 use Rattle.source.specs.State.{Phase, Seen}
 use Rattle.source.specs.Steps.{Step, go, stop, is_end}
-use Rattle.source.specs.Reading.{missing, or_else, unnamed, step, Outcome, taken, refused, onward, run}
+use Rattle.source.specs.Reading.{missing, or_else, unnamed, step, taken, refused, onward, run}
 use Rattle.source.specs.Stands.{choice_of}
 
 unnamed_at : (hs : List Entry) (cs : List Choice) (k : ℕ) (c : Choice) → k < length cs → c ≡ get_or cs k c →

@@ -1,12 +1,12 @@
 -- Statements and blocks.
-use Rattle.std.specs.Prelude.{ℕ, ◌+◌, ◌-◌, ◌^◌, Bool, true, false, cond, List, [], ◌∷◌, ◌++◌, length, set, Some, None, codes, Option, bit_and, bit_or, nat_lt, slice_set}
+use Rattle.std.specs.Prelude.{ℕ, ◌-◌, ◌^◌, Bool, true, false, cond, List, [], ◌∷◌, ◌++◌, length, Some, None, codes, Option, bit_and, bit_or, nat_lt, slice_set}
 use Rattle.model.specs.Action as action
 use Rattle.model.specs.Action.{Operand, Test, Action}
 use Rattle.token.specs.declared.token.Sign.TheVariants.{Open, Close, Semicolon}
 use Rattle.token.specs.Tokens.{Token}
 use Rattle.source.specs.declared.fault.Fault.TheVariants.{Unawaited, Depth, Twice}
 use Rattle.source.specs.Names.{find}
-use Rattle.source.specs.State.{Doing, Act, Apply, If, Skip, Row, Fork, Detour, Block, Do, Yes, No, Body, Seen, with_body, Goal, Change, Ask, BodyPhase, DoOpen, Statement, ApplyName, ApplyEnd, Value, Settle, BehindYes, ElseOpen, Purpose, Target, Tested, Named, Item, InField, InBody}
+use Rattle.source.specs.State.{Doing, Act, Apply, If, Skip, Row, Fork, Detour, Block, Do, Yes, No, Seen, with_body, Goal, Change, Ask, Statement, ApplyName, ApplyEnd, BehindYes, ElseOpen, Target, Tested, Named, Item, InField, InBody}
 use Rattle.source.specs.Steps.{Step, go, stop, is_sign, says, sign, word, known}
 
 -- a set of tables as the bits of a number

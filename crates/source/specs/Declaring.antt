@@ -1,5 +1,5 @@
 -- Headers and their fields.
-use Rattle.std.specs.Prelude.{ℕ, ◌+◌, ◌%◌, min, Bool, true, false, cond, ◌&&◌, ◌||◌, List, [], ◌∷◌, ◌++◌, length, is_some, codes, ◌==◌, nat_lt, slice_set}
+use Rattle.std.specs.Prelude.{ℕ, ◌+◌, ◌%◌, min, Bool, cond, ◌&&◌, ◌||◌, List, [], ◌∷◌, ◌++◌, length, is_some, codes, ◌==◌, nat_lt, slice_set}
 use Rattle.std.specs.Str.{bytes_eq}
 use Rattle.token.specs.declared.token.Sign.TheVariants.{Open, Close, Semicolon}
 use Rattle.token.specs.Tokens.{Token}

@@ -1,5 +1,5 @@
 -- How the code's answers stand for steps.
-use Rattle.std.specs.Prelude.{◌≡◌, ℕ, ◌⊎◌, List, Ok, Err, Result}
+use Rattle.std.specs.Prelude.{◌≡◌, ◌⊎◌, Ok, Err, Result}
 use Rattle.source.specs.declared.fault.Fault.{Fault}
 use Rattle.source.specs.declared.fault.Fault.TheVariants.{Memory}
 use Rattle.source.specs.declared.phase.Phase.{Phase}

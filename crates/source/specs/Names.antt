@@ -1,5 +1,5 @@
 -- Names that are declared, and what they stand for.
-use Rattle.std.specs.Prelude.{ℕ, Bool, cond, ◌&&◌, List, [], ◌∷◌, map, take, Some, None, Option, ◌==◌}
+use Rattle.std.specs.Prelude.{ℕ, cond, ◌&&◌, List, [], ◌∷◌, map, take, Some, None, Option, ◌==◌}
 use Rattle.std.specs.Str.{bytes_eq}
 use Rattle.program.specs.declared.field.FieldNo.{FieldNo}
 use Rattle.program.specs.declared.field.TableNo.{TableNo}

@@ -1,8 +1,8 @@
 -- Reading a source: one token after another, up to the first fault or the end.
-use Rattle.std.specs.Prelude.{ℕ, Bool, true, false, cond, ◌&&◌, List, [], ◌∷◌, is_some, Some, None, codes, Option}
+use Rattle.std.specs.Prelude.{ℕ, Bool, cond, ◌&&◌, List, [], ◌∷◌, is_some, Some, None, codes, Option}
 use Rattle.model.specs.Action as action
 use Rattle.token.specs.declared.token.Sign.TheVariants.{Semicolon}
-use Rattle.token.specs.Tokens.{Kind, Word, Number, Huge, Mark, Other, End, Token, tokens}
+use Rattle.token.specs.Tokens.{Token, tokens}
 use Rattle.source.specs.declared.fault.Fault.{Fault}
 use Rattle.source.specs.declared.fault.Fault.TheVariants.{Unawaited, Name, Count}
 use Rattle.source.specs.Names.{Entry, find}
@@ -12,7 +12,7 @@ use Rattle.source.specs.Declaring.{in_header}
 use Rattle.source.specs.Routing.{in_route}
 use Rattle.source.specs.Tabling.{in_table}
 use Rattle.source.specs.Using.{field_named, in_field}
-use Rattle.source.specs.Bodies.{begin, opened, statement, apply_name, settle, behind_yes, do_open, else_open}
+use Rattle.source.specs.Bodies.{begin, statement, apply_name, settle, behind_yes, do_open, else_open}
 
 -- a number or a field
 abbrev pub operand : Goal → Seen → Token → Step

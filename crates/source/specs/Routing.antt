@@ -1,10 +1,10 @@
 -- The first header, and the choices behind headers.
-use Rattle.std.specs.Prelude.{ℕ, ◌+◌, Bool, true, false, cond, List, [], ◌∷◌, ◌++◌, length, is_some, Some, None, codes, Option, nat_lt, slice_index_or, slice_set}
+use Rattle.std.specs.Prelude.{ℕ, ◌+◌, Bool, cond, List, [], ◌∷◌, ◌++◌, length, is_some, Some, None, codes, Option, nat_lt, slice_index_or, slice_set}
 use Rattle.token.specs.declared.token.Sign.TheVariants.{Close, Semicolon, Colon}
 use Rattle.token.specs.Tokens.{Token}
 use Rattle.source.specs.declared.fault.Fault.TheVariants.{Name}
 use Rattle.source.specs.Names.{find}
-use Rattle.source.specs.State.{Next, Ends, Header, Later, Never, Choice, Routes, Seen, with_routes, RoutePhase, FirstName, FirstEnd, AfterName, AfterBy, ChoiceValue, ChoiceColon, ChoiceNext, ChoiceEnd, Item, InRoute, InField, By, Named}
+use Rattle.source.specs.State.{Next, Ends, Header, Later, Never, Choice, Seen, with_routes, RoutePhase, FirstName, FirstEnd, AfterName, AfterBy, ChoiceValue, ChoiceColon, ChoiceNext, ChoiceEnd, Item, InRoute, InField, By, Named}
 use Rattle.source.specs.Steps.{Step, go, stop, is_sign, says, sign, keyword, word, number, known, room}
 
 abbrev pub set_first : ℕ → Seen → Seen

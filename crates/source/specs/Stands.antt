@@ -1,10 +1,8 @@
 -- What the code's values stand for.
-use Rattle.std.specs.Prelude.{ℕ, List, [], ◌∷◌, map, reverse, Some, None, vec_items, Option}
+use Rattle.std.specs.Prelude.{List, map, reverse, Some, None, vec_items, Option}
 use Rattle.program.specs.Stands.{operand_of, test_of, action_of, numbers_of}
 use Rattle.program.specs.Stands as program
 use Rattle.model.specs.Declarations as declarations
-use Rattle.program.specs.declared.field.FieldNo.{FieldNo}
-use Rattle.program.specs.declared.headers.HeaderNo.{HeaderNo}
 use Rattle.program.specs.declared.declarations.TableDeclaration.{TableDeclaration}
 use Rattle.program.specs.declared.statement.Kind.{Kind}
 use Rattle.program.specs.declared.statement.Kind.TheVariants as kind

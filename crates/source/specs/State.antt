@@ -1,5 +1,5 @@
 -- What has been read so far, and what is awaited next.
-use Rattle.std.specs.Prelude.{ℕ, Bool, true, false, List, [], ◌∷◌, replicate, Some, None, Option}
+use Rattle.std.specs.Prelude.{ℕ, Bool, false, List, [], ◌∷◌, replicate, None, Option}
 use Rattle.model.specs.Action.{Operand, Test, Action}
 use Rattle.model.specs.Declarations.{TableDeclaration}
 use Rattle.source.specs.Names.{Entry, Field}

@@ -1,11 +1,11 @@
 -- Tables.
-use Rattle.std.specs.Prelude.{ℕ, Bool, true, false, cond, ◌&&◌, List, [], ◌∷◌, ◌++◌, length, is_some, codes, nat_lt}
+use Rattle.std.specs.Prelude.{ℕ, Bool, cond, ◌&&◌, List, [], ◌∷◌, ◌++◌, length, is_some, codes, nat_lt}
 use Rattle.model.specs.Declarations.{Ternary}
 use Rattle.token.specs.declared.token.Sign.TheVariants.{Open, Close, Semicolon}
 use Rattle.token.specs.Tokens.{Token}
 use Rattle.source.specs.declared.fault.Fault.TheVariants.{Range}
 use Rattle.source.specs.Names.{Entry, find}
-use Rattle.source.specs.State.{Part, Looks, Sets, Purpose, Listed, Names, Seen, with_names, with_tables, TablePhase, TableName, TableOpen, LookWord, SetsWord, ListStart, LinesWord, Lines, LinesEnd, TableClose, Named, Item, InTable}
+use Rattle.source.specs.State.{Part, Looks, Sets, Listed, Names, Seen, with_names, with_tables, TablePhase, TableName, TableOpen, LookWord, SetsWord, ListStart, LinesWord, Lines, LinesEnd, TableClose, Item, InTable}
 use Rattle.source.specs.Steps.{Step, go, stop, is_sign, sign, keyword, word, number, fresh, room}
 use Rattle.source.specs.Using.{field_named, behind_list}
 

@@ -3,9 +3,9 @@ use Rattle.std.specs.Prelude.{ℕ, Bool, true, false, cond, List, [], ◌∷◌,
 use Rattle.model.specs.Action as action
 use Rattle.token.specs.declared.token.Sign.TheVariants.{Open, Semicolon, Comma, Dot, Is, Equals, Less}
 use Rattle.token.specs.Tokens.{Token}
-use Rattle.source.specs.declared.fault.Fault.TheVariants.{Unawaited, Count}
+use Rattle.source.specs.declared.fault.Fault.TheVariants.{Count}
 use Rattle.source.specs.Names.{find, find_in, only}
-use Rattle.source.specs.State.{Part, Looks, Sets, Purpose, By, Listed, Target, Tested, Operates, Goal, Change, Ask, Names, Seen, with_tables, FieldPhase, Named, Behind, Member, Past, TablePhase, SetsWord, LinesWord, ChoiceValue, Value, InRoute, InTable, InField, InBody}
+use Rattle.source.specs.State.{Part, Looks, Sets, Purpose, By, Listed, Target, Tested, Operates, Change, Ask, Names, Seen, with_tables, FieldPhase, Named, Behind, Member, Past, TablePhase, SetsWord, LinesWord, ChoiceValue, Value, InRoute, InTable, InField, InBody}
 use Rattle.source.specs.Steps.{Step, go, stop, is_sign, sign, word, known}
 use Rattle.source.specs.Declaring.{is_out}
 use Rattle.source.specs.Routing.{set_by}

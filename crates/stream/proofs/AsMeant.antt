@@ -1,8 +1,8 @@
 -- The theorem of the whole.
-use Rattle.std.proofs.Common.{◌≡◌, ℕ, Bool, List, [], ◌∷◌, ◌++◌, sym, refl, ap, ◌∙◌, ap₂}
+use Rattle.std.proofs.Common.{◌≡◌, ℕ, Bool, List, [], ◌∷◌, ◌++◌, refl, ap₂}
 use Rattle.model.specs.Pipeline.{Pipeline}
 use Rattle.stream.specs.Frames.{Frame, parts}
-use Rattle.stream.specs.Answering.{Mode, Unloaded, Running, Stopped, writes, next, answers, behind}
+use Rattle.stream.specs.Answering.{Mode, Unloaded, next, answers, behind}
 use Rattle.stream.specs.Machines.{pipeline, Past, twelve_later}
 use Rattle.stream.specs.Whole.{ServedAsMeant, FramesAsMeant, last_words}
 use Rattle.stream.proofs.Same.{Same, unloaded, running, stopped, next_same, writes_same}

@@ -1,12 +1,12 @@
 -- Frames one after the other: what stands at the front, and then the rest.
-use Rattle.std.proofs.Common.{◌≡◌, ℕ, zero, suc, ◌+◌, ◌-◌, ◌<◌, ◌≤◌, Bool, true, false, cond, ltb, List, [], ◌∷◌, ◌++◌, length, take, drop, sym, refl, ap, ◌∙◌, arith}
+use Rattle.std.proofs.Common.{◌≡◌, ℕ, zero, suc, ◌+◌, ◌-◌, ◌<◌, ◌≤◌, Bool, true, false, ltb, List, [], ◌∷◌, ◌++◌, length, take, drop, sym, refl, ap, ◌∙◌, arith}
 use Rattle.std.proofs.lemmas.Bool.{false≢true, cond_both}
 use Rattle.std.proofs.lemmas.List.{append_assoc, length-append, drop_at}
 use Rattle.frames.specs.Laws.{kind_byte}
 use Rattle.frames.specs.declared.kind.Kind.{Kind}
 use Rattle.frames.specs.declared.opening.Opening.{Opening}
 use Rattle.frames.specs.declared.opening.Opening.TheVariants as opening
-use Rattle.frames.specs.Reading.{Read, Empty, Pause, Whole, Cut, Unknown, read, size, number, length_bytes, behind_length, behind_kind, opens, opened}
+use Rattle.frames.specs.Reading.{Read, Empty, Pause, Whole, Cut, Unknown, read, number, length_bytes, behind_length, behind_kind, opens, opened}
 use Rattle.frames.proofs.Parts.{whole_size, whole_parts}
 use Rattle.stream.specs.Frames as frames
 use Rattle.stream.specs.Frames.{Parts, framed, nothing_whole, behind_frame, on_front, parts_within, parts}

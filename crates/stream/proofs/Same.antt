@@ -1,5 +1,5 @@
 -- The pipeline and what is meant, side by side.
-use Rattle.std.proofs.Common.{◌≡◌, ℕ, Bool, true, false, cond, List, [], ◌∷◌, ◌++◌, sym, refl, ap, ◌∙◌, subst, ap₂}
+use Rattle.std.proofs.Common.{◌≡◌, ℕ, Bool, true, false, List, [], ◌∷◌, ◌++◌, sym, refl, ap, ◌∙◌}
 use Rattle.std.proofs.lemmas.Bool.{false≢true}
 use Rattle.model.specs.Packet.{Departure}
 use Rattle.model.specs.Node.{Node}
@@ -17,7 +17,6 @@ use Rattle.compiler.specs.Packaging.{packaged}
 use Rattle.source.specs.Reading.{read_source}
 use Rattle.stream.specs.Frames.{Frame, Source, Update, Packet, Pause, Unknown, Starved}
 use Rattle.stream.specs.Writing.{sent_all}
-use Rattle.stream.specs.Machine.{Machine}
 use Rattle.stream.specs.Answering.{Mode, Unloaded, Running, Stopped, decode, take_apart, brings, refusal, loaded, update_writes, updated, writes, next}
 use Rattle.stream.specs.Machines.{first_version, pipeline, Past, twelve_later}
 

@@ -1,7 +1,6 @@
 -- The machines: the pipeline of the switch, and what is meant with no pipeline at all.
 use Rattle.std.specs.Prelude.{Bool, List, [], ◌∷◌, take, drop}
 use Rattle.model.specs.Node.{Node}
-use Rattle.model.specs.Paths.{Paths}
 use Rattle.model.specs.Version.{Version, empty}
 use Rattle.model.specs.Pipeline.{Pipeline, Event, one_bit, start, leaves, takes, event}
 use Rattle.model.specs.Meant.{history, taken_now, meant, meant_for, departs_as, departures}

@@ -1,11 +1,11 @@
 -- The whole: bytes in, bytes out.
-use Rattle.std.specs.Prelude.{◌≡◌, ℕ, List, [], ◌∷◌, ◌++◌}
+use Rattle.std.specs.Prelude.{◌≡◌, ℕ, List, [], ◌++◌}
 use Rattle.frames.specs.Reading.{Read, Empty, Pause, Whole, Cut, Unknown, read}
-use Rattle.stream.specs.Frames.{Frame, Parts, parts}
+use Rattle.stream.specs.Frames.{Frame, parts}
 use Rattle.stream.specs.Writing.{cut_short}
 use Rattle.stream.specs.Machine.{Machine}
 use Rattle.stream.specs.Answering.{Mode, Unloaded, Running, Stopped, answers, behind}
-use Rattle.stream.specs.Machines.{pipeline, twelve_later, at_once}
+use Rattle.stream.specs.Machines.{pipeline, twelve_later}
 
 -- the input has ended, and these bytes are left: they are no whole frame
 abbrev pub left_over : Read → List ℕ

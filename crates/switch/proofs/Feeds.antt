@@ -1,5 +1,5 @@
 -- One frame after another, over plain values.
-use Rattle.std.proofs.Common.{◌≡◌, ℕ, zero, suc, ◌+◌, ◌-◌, ◌<◌, ◌≤◌, Bool, ◌⊎◌, List, [], ◌∷◌, ◌++◌, length, take, drop, sym, refl, ap, ◌∙◌, ap₂, inl, inr, arith}
+use Rattle.std.proofs.Common.{◌≡◌, ℕ, zero, suc, ◌+◌, ◌-◌, ◌<◌, Bool, List, [], ◌∷◌, ◌++◌, length, take, drop, sym, refl, ap, ◌∙◌, inl, inr, arith}
 use borrow.Rule.Slice.PartMut.{put_mid}
 use Rattle.std.proofs.lemmas.List.{append_assoc, append-nil, length-append, length-drop, drop_all, drop-drop, take-append-drop, take_rest}
 use Rattle.model.specs.Pipeline.{Pipeline}
@@ -8,7 +8,7 @@ use Rattle.stream.specs.Frames.{Frame, Parts, parts}
 use Rattle.stream.specs.Machine.{Machine}
 use Rattle.stream.specs.Machines.{pipeline}
 use Rattle.switch.specs.Starving.{Done, AllDone}
-use Rattle.switch.specs.Stepping.{Waits, Does, Steps}
+use Rattle.switch.specs.Stepping.{Does, Steps}
 use Rattle.switch.specs.Feeding.{Fed}
 use Rattle.switch.proofs.Serves.{written_behind}
 

@@ -1,11 +1,10 @@
 -- A source that is refused, over plain values.
-use Rattle.std.proofs.Common.{◌≡◌, ℕ, Bool, ◌⊎◌, List, ◌++◌, drop, sym, refl, ap, ◌∙◌, inl, inr}
-use Rattle.model.specs.Pipeline.{Pipeline}
-use Rattle.compiler.specs.Compiling.{Compiled, Refused, compiled}
+use Rattle.std.proofs.Common.{◌≡◌, ℕ, List, ◌++◌, drop, sym, refl, ap, ◌∙◌, inl, inr}
+use Rattle.compiler.specs.Compiling.{Refused, compiled}
 use Rattle.compiler.specs.Refusals.{answer_of, Refuses}
 use Rattle.compiler.specs.declared.refusal.Refusal.{Refusal}
 use Rattle.compiler.specs.declared.refusal.Refusal.TheVariants.{Unread, Unplaced, Memory}
-use Rattle.stream.specs.Answering.{Mode, Unloaded, loaded, load_writes, writes, next}
+use Rattle.stream.specs.Answering.{Unloaded, loaded, load_writes, writes, next}
 use Rattle.stream.specs.Frames.{Frame, Source, Starved}
 use Rattle.stream.specs.Machines.{pipeline}
 use Rattle.stream.specs.Writing.{told}

@@ -1,5 +1,5 @@
 -- Frames of a program that runs, over plain values.
-use Rattle.std.proofs.Common.{◌≡◌, ℕ, ◌+◌, ◌-◌, ◌≤◌, Bool, true, false, cond, ◌⊎◌, List, [], ◌∷◌, ◌++◌, length, take, drop, Ok, Err, sym, refl, ap, ◌∙◌, ap₂, inl, inr, arith}
+use Rattle.std.proofs.Common.{◌≡◌, ℕ, ◌+◌, ◌-◌, Bool, true, false, cond, List, [], ◌++◌, length, take, drop, Ok, Err, sym, refl, ap, ◌∙◌, inl, inr, arith}
 use borrow.Rule.Slice.PartMut.{put_mid}
 use Rattle.std.proofs.lemmas.List.{append_assoc, append-nil, take_at, drop_at, drop_all, drop-drop, length-drop}
 use Rattle.model.specs.Packet.{Departure}
@@ -16,7 +16,7 @@ use Rattle.update.specs.Decoded as decoded
 use Rattle.update.specs.Stands.{Refuses}
 use Rattle.update.specs.declared.fault.Fault.{Fault}
 use Rattle.update.specs.declared.fault.Fault.TheVariants.{RunsOut, LeftOver, NoAction, NoOperand, NoField, TooWide, NoTable, TableTwice, TooManyEntries, TooManyActions, NotItsField, NoMemory}
-use Rattle.stream.specs.Answering.{Mode, Running, take_apart, brings, refusal, decode, told_fault, update_writes, updated, writes, next}
+use Rattle.stream.specs.Answering.{Running, take_apart, brings, refusal, decode, told_fault, update_writes, updated, writes, next}
 use Rattle.stream.specs.Frames as frames
 use Rattle.stream.specs.Frames.{Frame, Starved}
 use Rattle.stream.specs.Machines.{pipeline}

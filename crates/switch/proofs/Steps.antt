@@ -1,5 +1,5 @@
 -- The frame at the front, over plain values.
-use Rattle.std.proofs.Common.{◌≡◌, ℕ, ◌+◌, ◌-◌, ◌<◌, ◌≤◌, Bool, ◌⊎◌, List, [], ◌∷◌, ◌++◌, length, drop, sym, refl, ap, ◌∙◌, inl, inr, arith}
+use Rattle.std.proofs.Common.{◌≡◌, ℕ, ◌+◌, ◌-◌, ◌<◌, ◌≤◌, Bool, List, [], ◌∷◌, ◌++◌, length, drop, sym, refl, ap, ◌∙◌, inl, inr, arith}
 use Rattle.std.proofs.lemmas.List.{length-append, length-drop, drop_all}
 use Rattle.model.specs.Pipeline.{Pipeline}
 use Rattle.frames.specs.declared.kind.Kind.{Kind}
@@ -7,11 +7,11 @@ use Rattle.frames.specs.Reading as reading
 use Rattle.frames.specs.Reading.{read, size}
 use Rattle.frames.proofs.Parts.{whole_size}
 use Rattle.stream.specs.Answering.{Mode, writes, next}
-use Rattle.stream.specs.Frames.{Frame, Pause, Unknown, Parts, framed, nothing_whole, behind_frame, parts, parts_within}
+use Rattle.stream.specs.Frames.{Frame, Pause, Unknown, Parts, framed, behind_frame, parts, parts_within}
 use Rattle.stream.specs.Machines.{pipeline}
 use Rattle.stream.proofs.Parting.{parts_front, pause_size, pause_left, whole_left}
 use Rattle.switch.specs.Starving.{Done}
-use Rattle.switch.specs.Stepping.{Waits, Does, Steps}
+use Rattle.switch.specs.Stepping.{Steps}
 
 pub empty_waits : (mode : Mode (Pipeline Bool)) (bytes out : List ℕ) → read bytes ≡ reading.Empty → Steps mode mode bytes out out 0 0
 empty_waits mode bytes out e = inl (record { none = ap (λ (p : Parts). p.frames) (parts_front bytes reading.Empty e); unused = refl; silent = refl; kept = refl; stays = refl })

@@ -1,5 +1,5 @@
 -- What is done about the bytes at hand, frame by frame.
-use Rattle.std.specs.Prelude.{◌≡◌, ℕ, ◌+◌, ◌≤◌, Bool, true, false, List, [], ◌∷◌, ◌++◌, length, drop}
+use Rattle.std.specs.Prelude.{◌≡◌, ℕ, ◌+◌, ◌≤◌, Bool, true, false, List, [], ◌++◌, length, drop}
 use Rattle.model.specs.Pipeline.{Pipeline}
 use Rattle.stream.specs.Answering.{Mode, Unloaded, Running, Stopped, answers, behind}
 use Rattle.stream.specs.Frames.{Frame, parts}

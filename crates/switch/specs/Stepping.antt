@@ -1,8 +1,8 @@
 -- What is done about the front of the bytes at hand.
-use Rattle.std.specs.Prelude.{◌≡◌, ℕ, ◌<◌, Bool, ◌⊎◌, List, [], ◌∷◌, ◌++◌, length, drop}
+use Rattle.std.specs.Prelude.{◌≡◌, ℕ, ◌<◌, Bool, ◌⊎◌, List, [], ◌++◌, length, drop}
 use Rattle.model.specs.Pipeline.{Pipeline}
 use Rattle.stream.specs.Answering.{Mode, writes, next}
-use Rattle.stream.specs.Frames.{Frame, Parts, behind_frame, parts}
+use Rattle.stream.specs.Frames.{Frame, behind_frame, parts}
 use Rattle.stream.specs.Machines.{pipeline}
 use Rattle.switch.specs.Starving.{Done}
 

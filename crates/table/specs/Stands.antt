@@ -5,7 +5,6 @@ use Rattle.model.specs.Table as table
 use Rattle.model.specs.Version as version
 use Rattle.program.specs.Stands.{action_of}
 use Rattle.program.specs.declared.action.Action.{Action}
-use Rattle.table.specs.declared.entry.Actions.{Actions}
 use Rattle.table.specs.declared.entry.Entry.{Entry}
 use Rattle.table.specs.declared.entry.Edit.{Edit}
 use Rattle.table.specs.declared.rows.Rows.{Rows}

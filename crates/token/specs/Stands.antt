@@ -1,5 +1,5 @@
 -- What the code's tokens stand for.
-use Rattle.std.specs.Prelude.{ℕ, ◌^◌, min, cond, Some, None, Option}
+use Rattle.std.specs.Prelude.{ℕ, ◌^◌, min, Some, None, Option}
 use Rattle.token.specs.declared.token.Kind.{Kind}
 use Rattle.token.specs.declared.token.Kind.TheVariants as kind
 use Rattle.token.specs.declared.token.Token.{Token}

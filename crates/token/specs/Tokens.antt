@@ -1,5 +1,5 @@
 -- How a source is cut into tokens.
-use Rattle.std.specs.Prelude.{ℕ, zero, suc, ◌+◌, ◌-◌, ◌*◌, ◌^◌, Bool, true, false, cond, not, ◌&&◌, ◌||◌, List, [], ◌∷◌, length, take, drop, Some, None, Option, ◌==◌, nat_le, nat_lt, slice_index}
+use Rattle.std.specs.Prelude.{ℕ, zero, suc, ◌+◌, ◌-◌, ◌*◌, ◌^◌, Bool, false, cond, not, ◌&&◌, ◌||◌, List, [], ◌∷◌, length, take, drop, Some, None, Option, ◌==◌, nat_le, nat_lt, slice_index}
 use Rattle.token.specs.declared.token.Sign.{Sign}
 use Rattle.token.specs.declared.token.Sign.TheVariants.{Open, Close, Semicolon, Colon, Comma, Dot, Is, Equals, Less}
 use Rattle.token.specs.declared.token.Stretch.{Stretch}

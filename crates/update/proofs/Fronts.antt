@@ -1,7 +1,7 @@
 -- Numbers at the front, as the code takes them: the first bytes, and a part of the slice.
-use Rattle.std.proofs.Common.{◌≡◌, ℕ, zero, suc, ◌+◌, ◌-◌, ◌*◌, ◌<◌, ◌≤◌, List, [], ◌∷◌, length, get_or, take, drop, sym, refl, ap, ◌∙◌, arith}
+use Rattle.std.proofs.Common.{◌≡◌, ℕ, ◌+◌, ◌-◌, ◌*◌, ◌<◌, ◌≤◌, List, [], ◌∷◌, length, get_or, take, drop, sym, refl, ap, arith}
 use Rattle.std.proofs.lemmas.List.{take_rest}
-use Rattle.update.specs.Decoded.{Decoded, Then}
+use Rattle.update.specs.Decoded.{Then}
 use Rattle.update.specs.Numbers.{cut_short, byte_at, half_at, word_at}
 
 pub byte_some : (at : ℕ) (xs : List ℕ) (k : Then ℕ) → 1 ≤ length xs → byte_at at xs k ≡ k (get_or xs 0 0) (at + 1) (take (length xs - 1) (drop 1 xs))

@@ -4,12 +4,12 @@ use Rattle.model.specs.Declarations.{Declarations, TableDeclaration}
 use Rattle.model.specs.Action.{Action}
 use Rattle.model.specs.Table.{Pattern, Entry}
 use Rattle.model.specs.Version.{Edit}
-use Rattle.update.specs.Decoded.{Decoded, Then}
+use Rattle.update.specs.Decoded.{Then}
 use Rattle.std.proofs.lemmas.List.{drop_more, drop_all}
 use Rattle.program.specs.Stands.{numbers_of}
 use Rattle.program.specs.declared.field.FieldNo.{FieldNo}
 use Rattle.table.specs.Stands.{patterns_of}
-use Rattle.update.specs.Decoding.{among, named, action_at, actions_at, pattern_at, patterns_at, entry_at, entries_at, edit_at, edits_at}
+use Rattle.update.specs.Decoding.{action_at, actions_at, pattern_at, patterns_at, entry_at, entries_at, edit_at, edits_at}
 
 pub actions_more : (d : Declarations) (t : TableDeclaration) (n : ℕ) (done : List Action) (at : ℕ) (bs : List ℕ) (k : Then (List Action)) → 0 < n →
     actions_at d t n done at bs k ≡ action_at d t at bs (λ a behind rest. actions_at d t (n - 1) (done ++ (a ∷ [])) behind rest k)

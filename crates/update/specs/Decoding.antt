@@ -1,10 +1,10 @@
 -- Decoding an update against what a program declares: from front to back, and the first fault ends it.
-use Rattle.std.specs.Prelude.{ℕ, zero, suc, ◌^◌, Bool, true, false, cond, ◌||◌, List, [], ◌∷◌, ◌++◌, length, ◌==◌, nat_le, nat_lt}
+use Rattle.std.specs.Prelude.{ℕ, zero, suc, ◌^◌, Bool, false, cond, ◌||◌, List, [], ◌∷◌, ◌++◌, ◌==◌, nat_le, nat_lt}
 use Rattle.model.specs.Declarations.{Declarations, TableDeclaration}
 use Rattle.model.specs.Action.{Operand, Field, Number, Action, Set, Add}
 use Rattle.model.specs.Table.{Pattern, Entry}
 use Rattle.model.specs.Version.{Edit, Replace}
-use Rattle.update.specs.Decoded.{Fault, RunsOut, LeftOver, NoAction, NoOperand, NoField, TooWide, NoTable, TableTwice, TooManyEntries, TooManyActions, NotItsField, Decoded, Taken, Refused, Then}
+use Rattle.update.specs.Decoded.{LeftOver, NoAction, NoOperand, NoField, TooWide, NoTable, TableTwice, TooManyEntries, TooManyActions, NotItsField, Decoded, Taken, Refused, Then}
 use Rattle.update.specs.Numbers.{byte_at, half_at, word_at}
 
 abbrev pub among : ℕ → List ℕ → Bool

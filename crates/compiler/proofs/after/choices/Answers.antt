@@ -1,6 +1,5 @@
-use Rattle.std.proofs.Common.{◌≡◌, ℕ, vec_items, sym, ap, ◌∙◌}
+use Rattle.std.proofs.Common.{vec_items, ap}
 use Rattle.packet.specs.Header as packet
-use Rattle.packet.specs.Stands.{choices_of as choices_in}
 use Rattle.source.specs.Names.{headers_of}
 use Rattle.source.specs.Stands.{choices_of as choices_seen}
 use Rattle.compiler.specs.Packaging.{choices_of}

@@ -1,4 +1,4 @@
-use Rattle.std.proofs.Common.{◌≡◌, sym, ◌∙◌, arith}
+use Rattle.std.proofs.Common.{arith}
 use Rattle.compiler.proofs.Counting.{before_at, in_at, before_end, in_end, at_most_one}
 use Rattle.compiler.proofs.headers.counted.Goals as goal
 

@@ -1,4 +1,4 @@
-use Rattle.std.proofs.Common.{◌≡◌, ℕ, ◌+◌, List, map, get_or, Some, None, vec_items, Option, sym, ap, ◌∙◌}
+use Rattle.std.proofs.Common.{ℕ, ◌+◌, List, map, get_or, None, vec_items, ap, ◌∙◌}
 use Rattle.source.specs.declared.name.FieldName.{FieldName}
 use Rattle.packet.specs.Stands.{by_of, after_of}
 use Rattle.source.specs.Names.{headers_of, fields_of, field_number}

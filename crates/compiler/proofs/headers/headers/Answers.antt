@@ -1,4 +1,4 @@
-use Rattle.std.proofs.Common.{◌≡◌, ◌<◌, ◌≤◌, vec_items, vec_len, sym, refl, ap, ◌∙◌, arith}
+use Rattle.std.proofs.Common.{◌<◌, ◌≤◌, vec_items, vec_len, refl, arith}
 use Rattle.source.specs.Stands.{seen_of}
 use Rattle.compiler.specs.Packaging.{headers_from}
 use Rattle.compiler.proofs.Heading.{headed, all_headed}

@@ -1,8 +1,7 @@
-use Rattle.std.proofs.Common.{◌≡◌, ℕ, List, length, vec_items, vec_len, sym, ap, ◌∙◌, rules}
+use Rattle.std.proofs.Common.{◌≡◌, length, vec_items, vec_len, sym, ap, ◌∙◌, rules}
 use Rattle.std.proofs.lemmas.List.{length-map}
-use Rattle.packet.specs.Header.{Header}
 use Rattle.packet.specs.Stands.{headers_of}
-use Rattle.program.specs.Stands.{table_of, statements_of, declarations_of}
+use Rattle.program.specs.Stands.{table_of, statements_of}
 use Rattle.source.specs.Names.{header_of}
 use Rattle.source.specs.Stands.{seen_of}
 use Rattle.compiler.specs.Packaging.{headers_from, packaged}

@@ -1,4 +1,4 @@
-use Rattle.std.proofs.Common.{ℕ, List, ◌++◌, string_bytes, ap, ◌∙◌}
+use Rattle.std.proofs.Common.{string_bytes, ◌∙◌}
 use Rattle.listing.specs.Stands.{names_of}
 use Rattle.listing.proofs.Lines.{listed_more, listed_end}
 use Rattle.listing.proofs.writing.listing.Goals as goal

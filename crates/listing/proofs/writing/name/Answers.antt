@@ -1,4 +1,4 @@
-use Rattle.std.proofs.Common.{◌≡◌, ◌<◌, [], length, string_bytes, String, sym, ap, ◌∙◌, arith}
+use Rattle.std.proofs.Common.{[], string_bytes, String, sym, ap, ◌∙◌}
 use Rattle.std.specs.declared.alloc.Global.{Global}
 use Rattle.std.proofs.lemmas.List.{get_or-map, get_or_past, length-map}
 use Rattle.listing.specs.Stands.{texts_of}

@@ -1,6 +1,5 @@
-use Rattle.std.proofs.Common.{◌≡◌, ℕ, ◌+◌, min, true, false, length, sym, refl, ap, ◌∙◌, arith}
+use Rattle.std.proofs.Common.{◌+◌, min, true, length, sym, refl, ap, arith}
 use Rattle.model.specs.Meaning.{means}
-use Rattle.model.specs.Packet.{Packet}
 use Rattle.model.specs.Paths.{Paths}
 use Rattle.model.specs.Statements.{paths_at}
 use Rattle.program.specs.Stands.{over, declarations_of, statements_of, action_of, test_of}

@@ -1,4 +1,4 @@
-use Rattle.std.proofs.Common.{◌≡◌, true, sym, ◌∙◌}
+use Rattle.std.proofs.Common.{true, sym, ◌∙◌}
 use Rattle.model.specs.Statements.{paths_at}
 use Rattle.program.specs.Stands.{over, declarations_of, statements_of}
 use Rattle.program.proofs.Unfolding.{at_end}

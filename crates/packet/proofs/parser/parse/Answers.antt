@@ -6,7 +6,7 @@ use Rattle.program.specs.declared.headers.Header.{Header}
 use Rattle.packet.specs.Header.{Widths, Next, Then}
 use Rattle.packet.specs.Contents.{Contents, unread}
 use Rattle.packet.specs.Parsing.{parse_from, parse, read_header}
-use Rattle.packet.specs.Stands.{widths_of, next_of, header_of, headers_of, fields_of, present_of, holding}
+use Rattle.packet.specs.Stands.{widths_of, next_of, header_of, headers_of, present_of, holding}
 use Rattle.packet.specs.Progress.{reached}
 use Rattle.packet.specs.declared.parser.Progress.{Progress}
 use Rattle.packet.specs.declared.parsed.Refused.{Refused}

@@ -1,6 +1,6 @@
 use Rattle.std.proofs.Common.{◌≡◌, ℕ, ◌+◌, ◌-◌, ◌<◌, length, vec_items, sym, ap, ◌∙◌, arith}
-use Rattle.model.specs.Stage.{Transit, on_stage, moved}
-use Rattle.program.specs.Stands.{over, node_of, does_of}
+use Rattle.model.specs.Stage.{on_stage}
+use Rattle.program.specs.Stands.{over, node_of}
 use Rattle.pipeline.specs.Stands.{version_of, transit}
 use Rattle.pipeline.proofs.Turns.{turn_goes, turn_ends, turns_over}
 use Rattle.pipeline.proofs.stage.turns.Goals as goal

@@ -1,4 +1,4 @@
-use Rattle.std.proofs.Common.{◌≡◌, ◌<◌, length, get_or, set, sym, refl, ap, ◌∙◌, arith}
+use Rattle.std.proofs.Common.{◌≡◌, ◌<◌, length, get_or, set, sym, ap, ◌∙◌, arith}
 use Rattle.model.specs.Pipeline.{worked_slot}
 use Rattle.pipeline.specs.Stands.{versions_of, store_of, slot_of, place_of}
 use Rattle.pipeline.specs.declared.slot.Slot.{Slot}

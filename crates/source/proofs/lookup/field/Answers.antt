@@ -1,4 +1,4 @@
-use Rattle.std.proofs.Common.{◌≡◌, sym, ◌∙◌}
+use Rattle.std.proofs.Common.{sym, ◌∙◌}
 use Rattle.source.proofs.Finding.{in_hit, in_miss, in_end}
 use Rattle.source.proofs.lookup.field.Goals as goal
 

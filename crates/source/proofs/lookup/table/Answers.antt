@@ -1,4 +1,4 @@
-use Rattle.std.proofs.Common.{◌≡◌, sym, ◌∙◌}
+use Rattle.std.proofs.Common.{sym, ◌∙◌}
 use Rattle.source.specs.Names.{table_of}
 use Rattle.source.proofs.Finding.{find_hit, find_miss, find_end}
 use Rattle.source.proofs.lookup.table.Goals as goal

@@ -1,4 +1,4 @@
-use Rattle.std.proofs.Common.{◌≡◌, sym, ◌∙◌}
+use Rattle.std.proofs.Common.{sym, ◌∙◌}
 use Rattle.source.specs.Names.{headers_of}
 use Rattle.source.proofs.Runs.{unnamed_more, unnamed_here, unnamed_end}
 use Rattle.source.proofs.reading.unnamed.Goals as goal

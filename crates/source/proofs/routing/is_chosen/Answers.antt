@@ -1,4 +1,4 @@
-use Rattle.std.proofs.Common.{◌≡◌, ◌<◌, length, ◌∙◌, rules}
+use Rattle.std.proofs.Common.{◌<◌, length, ◌∙◌, rules}
 use Rattle.source.proofs.Runs.{some_at}
 use Rattle.source.proofs.routing.is_chosen.Goals as goal
 

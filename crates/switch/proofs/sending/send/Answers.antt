@@ -1,14 +1,13 @@
 use Rattle.std.proofs.Common.{◌≡◌, ℕ, ◌+◌, ◌≤◌, eqb, List, [], ◌++◌, length, take, drop, vec_items, sym, ap, ◌∙◌, ap₂, arith}
 use Rattle.std.proofs.lemmas.Bool.{cond-false}
 use Rattle.std.proofs.lemmas.List.{length-take, take_rest}
-use Rattle.compiler.specs.Stands.{format_of}
 use Rattle.packet.specs.Carrying.{held}
 use Rattle.packet.specs.Deparsing.{deparse}
 use Rattle.packet.specs.Stands.{widths_of, headers_of, holding}
 use Rattle.pipeline.specs.Stands.{packet_of}
 use Rattle.stream.specs.Writing.{packet_frame}
 use Rattle.switch.proofs.Carries.{deparses}
-use Rattle.switch.proofs.Framed.{headed, framed}
+use Rattle.switch.proofs.Framed.{framed}
 use Rattle.switch.proofs.sending.send.Goals as goal
 
 pub returns : goal.returns

@@ -1,4 +1,4 @@
-use Rattle.std.proofs.Common.{List, sym, refl, ap, ◌∙◌}
+use Rattle.std.proofs.Common.{List, sym, ap, ◌∙◌}
 use Rattle.std.proofs.lemmas.List.{get_or-map, get_or_past, length-map}
 use Rattle.model.specs.Action.{acts}
 use Rattle.model.specs.Table.{Entry, no_entry}

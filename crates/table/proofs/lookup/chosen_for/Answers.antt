@@ -1,8 +1,7 @@
-use Rattle.std.proofs.Common.{◌≡◌, ℕ, ◌<◌, ◌≤◌, List, [], ◌∷◌, map, length, get_or, vec_items, sym, ap, ◌∙◌, arith}
+use Rattle.std.proofs.Common.{◌≡◌, ◌<◌, ◌≤◌, List, map, length, get_or, vec_items, sym, ap, ◌∙◌}
 use Rattle.std.proofs.lemmas.List.{get_or-map, get_or_past, length-map}
-use Rattle.model.specs.Packet.{Packet}
 use Rattle.model.specs.Declarations as declarations
-use Rattle.model.specs.Table.{Entry, chosen}
+use Rattle.model.specs.Table.{chosen}
 use Rattle.program.specs.Stands.{over, table_of, undeclared}
 use Rattle.program.specs.declared.declarations.TableDeclaration.{TableDeclaration}
 use Rattle.table.specs.Stands.{entries_of}

@@ -1,7 +1,5 @@
-use Rattle.std.proofs.Common.{◌≡◌, ℕ, zero, suc, ◌+◌, length, drop, sym, ap, ◌∙◌, arith}
-use Rattle.model.specs.Table.{first_fit}
+use Rattle.std.proofs.Common.{◌≡◌, length, sym, arith}
 use Rattle.program.specs.Stands.{over, numbers_of}
-use Rattle.table.specs.Stands.{entries_of}
 use Rattle.table.proofs.Fitting.{first_found, first_goes_on, first_end}
 use Rattle.table.proofs.lookup.first_fit.Goals as goal
 

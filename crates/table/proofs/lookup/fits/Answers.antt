@@ -1,5 +1,5 @@
-use Rattle.std.proofs.Common.{◌+◌, ◌<◌, Bool, true, false, ◌&&◌, length, get_or, drop, sym, refl, ap, ◌∙◌, ap₂, arith}
-use Rattle.model.specs.Table.{fits, agrees}
+use Rattle.std.proofs.Common.{◌<◌, length, get_or, drop, sym, ap, ◌∙◌, arith}
+use Rattle.model.specs.Table.{agrees}
 use Rattle.program.specs.Stands.{over, numbers_of}
 use Rattle.table.specs.Stands.{patterns_of}
 use Rattle.table.proofs.Fitting.{fits_fails, fits_goes_on, fits_short_values, fits_short_masks, fits_end}

@@ -1,4 +1,4 @@
-use Rattle.std.proofs.Common.{◌≡◌, sym, refl, ap, ◌∙◌, arith}
+use Rattle.std.proofs.Common.{sym, ◌∙◌, arith}
 use Rattle.token.proofs.Stretches.{front_more, front_stops, front_ends}
 use Rattle.token.proofs.lead.front.Goals as goal
 

@@ -1,4 +1,4 @@
-use Rattle.std.proofs.Common.{◌≡◌, ℕ, Option, sym, refl, ap, ◌∙◌}
+use Rattle.std.proofs.Common.{ℕ, Option, ap, ◌∙◌}
 use Rattle.token.specs.Tokens.{Kind, Word, decimal, hexadecimal, number}
 use Rattle.token.proofs.Values.{number_capped}
 use Rattle.token.proofs.lead.run.Goals as goal

@@ -1,4 +1,4 @@
-use Rattle.std.proofs.Common.{◌≡◌, ℕ, ◌+◌, ◌*◌, ◌^◌, ◌<◌, ◌≤◌, min, get_or, drop, sym, refl, ap, ◌∙◌, arith}
+use Rattle.std.proofs.Common.{◌≡◌, ℕ, ◌+◌, ◌*◌, ◌^◌, ◌<◌, ◌≤◌, min, get_or, drop, sym, ap, ◌∙◌, arith}
 use native.Mathlib.Nat.{min-le_right}
 use Rattle.token.specs.Tokens.{digit, value_behind}
 use Rattle.token.specs.Stands.{capped}

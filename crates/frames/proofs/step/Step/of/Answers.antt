@@ -1,5 +1,5 @@
 -- The bytes of a whole frame are those in front of what follows it.
-use Rattle.std.proofs.Common.{◌≡◌, ◌+◌, ◌-◌, ◌≤◌, length, sym, ap, ◌∙◌, arith}
+use Rattle.std.proofs.Common.{◌≡◌, ◌-◌, length, sym, ap, ◌∙◌, arith}
 use Rattle.frames.specs.Reading.{size}
 use Rattle.frames.specs.Serving.{on_whole, on_front}
 use Rattle.frames.proofs.Parts.{whole_size}

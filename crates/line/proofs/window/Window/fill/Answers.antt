@@ -1,5 +1,5 @@
 -- What was read stands behind what was held.
-use Rattle.std.proofs.Common.{◌≡◌, ℕ, ◌+◌, ◌≤◌, [], ◌++◌, length, take, vec_items, vec_len, refl, ap, ◌∙◌, arith}
+use Rattle.std.proofs.Common.{◌+◌, ◌≤◌, [], ◌++◌, length, take, ap, ◌∙◌, arith}
 use Rattle.line.proofs.Buffers.{read_behind, read_nothing}
 use Rattle.line.proofs.window.Window.fill.Goals as goal
 

@@ -1,5 +1,5 @@
 -- The buffer never shrinks, so what is held stays.
-use Rattle.std.proofs.Common.{◌≤◌, length, take, is_ok, vec_items, vec_len, refl, ap, ◌∙◌, arith}
+use Rattle.std.proofs.Common.{◌≤◌, length, take, is_ok, vec_items, refl, ap, ◌∙◌, arith}
 use Rattle.line.proofs.Buffers.{grown}
 use Rattle.line.proofs.window.Window.make_room.Goals as goal
 

@@ -1,4 +1,4 @@
-use Rattle.std.proofs.Common.{◌<◌, ◌≤◌, length, vec_items, sym, ap, ◌∙◌, arith}
+use Rattle.std.proofs.Common.{◌<◌, ◌≤◌, length, vec_items, sym, arith}
 use Rattle.pipeline.proofs.Turns.{node_at_lem, past_end}
 use Rattle.pipeline.proofs.loaded.Loaded.node_at.Goals as goal
 

@@ -1,4 +1,4 @@
-use Rattle.std.proofs.Common.{◌≡◌, ◌<◌, length, vec_items, sym, ap, ◌∙◌, arith}
+use Rattle.std.proofs.Common.{◌<◌, length, vec_items, sym, ap, ◌∙◌, arith}
 use Rattle.pipeline.specs.Stands.{View, packet_of}
 use Rattle.pipeline.specs.declared.packet.Stored.{Stored}
 use Rattle.pipeline.proofs.Store.{store_at}

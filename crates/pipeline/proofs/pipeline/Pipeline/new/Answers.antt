@@ -1,4 +1,4 @@
-use Rattle.std.proofs.Common.{◌≡◌, Bool, false, List, vec_items, sym, refl, ap, ◌∙◌, ap₂}
+use Rattle.std.proofs.Common.{Bool, false, List, vec_items, refl, ap, ap₂}
 use mathlib.Core.Path.{fun_ext}
 use mathlib.Core.Bool.{beq}
 use Rattle.model.specs.Table.{Tables}

@@ -1,4 +1,4 @@
-use Rattle.std.proofs.Common.{◌≡◌, List, vec_items, ap}
+use Rattle.std.proofs.Common.{List, vec_items, ap}
 use Rattle.source.specs.State.{Block}
 use Rattle.source.specs.Bodies.{set_blocks}
 use Rattle.source.specs.Stands.{seen_of}

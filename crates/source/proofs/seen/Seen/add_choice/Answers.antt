@@ -1,4 +1,4 @@
-use Rattle.std.proofs.Common.{◌≡◌, List, vec_items, ap}
+use Rattle.std.proofs.Common.{List, vec_items, ap}
 use Rattle.source.specs.State.{Choice, with_routes}
 use Rattle.source.specs.Stands.{seen_of, choice_of}
 use Rattle.source.proofs.Giving.{pushed}

@@ -1,5 +1,5 @@
-use Rattle.std.proofs.Common.{◌≡◌, List, vec_items, ap}
-use Rattle.source.specs.Names.{Entry, Field, field_of}
+use Rattle.std.proofs.Common.{List, vec_items, ap}
+use Rattle.source.specs.Names.{Field, field_of}
 use Rattle.source.specs.State.{with_names}
 use Rattle.source.specs.Stands.{seen_of}
 use Rattle.source.proofs.Giving.{pushed}

@@ -1,4 +1,4 @@
-use Rattle.std.proofs.Common.{◌≡◌, ℕ, List, vec_items, sym, ap, ◌∙◌}
+use Rattle.std.proofs.Common.{ℕ, List, vec_items, sym, ap, ◌∙◌}
 use Rattle.program.specs.declared.field.FieldNo.{FieldNo}
 use Rattle.source.specs.declared.phase.Part.{Part}
 use Rattle.source.specs.State.{with_tables}

@@ -1,4 +1,4 @@
-use Rattle.std.proofs.Common.{◌≡◌, reverse, vec_items, sym, ◌∙◌}
+use Rattle.std.proofs.Common.{reverse, vec_items, sym, ◌∙◌}
 use Rattle.std.proofs.lemmas.List.{length-map, length-reverse}
 use Rattle.source.specs.Stands.{block_of}
 use Rattle.source.proofs.seen.Seen.depth.Goals as goal

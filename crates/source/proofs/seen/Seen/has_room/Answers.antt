@@ -1,4 +1,4 @@
-use Rattle.std.proofs.Common.{◌≡◌, ℕ, ltb, vec_items, sym, ap, ◌∙◌}
+use Rattle.std.proofs.Common.{ℕ, ltb, vec_items, sym, ap, ◌∙◌}
 use Rattle.std.proofs.lemmas.List.{length-map}
 use Rattle.program.specs.declared.field.FieldNo.{FieldNo}
 use Rattle.source.specs.declared.phase.Part.{Part}

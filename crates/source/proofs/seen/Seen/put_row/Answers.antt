@@ -1,4 +1,4 @@
-use Rattle.std.proofs.Common.{◌≡◌, ◌≤◌, List, length, vec_items, sym, ap, ◌∙◌, arith}
+use Rattle.std.proofs.Common.{◌≤◌, List, length, vec_items, sym, ap, arith}
 use Rattle.std.proofs.lemmas.List.{map-set, set_past, length-map}
 use Rattle.source.specs.State.{Row, with_body}
 use Rattle.source.specs.Stands.{seen_of, row_of, rows_of}

@@ -1,4 +1,4 @@
-use Rattle.std.proofs.Common.{◌≡◌, ℕ, List, Some, Option, ap}
+use Rattle.std.proofs.Common.{ℕ, List, Some, Option, ap}
 use Rattle.std.proofs.lemmas.List.{map-set}
 use Rattle.source.specs.Names.{field_number}
 use Rattle.source.specs.State.{with_routes}

@@ -1,7 +1,7 @@
 -- One packet leaves: its frame alone goes out.
-use Rattle.std.proofs.Common.{◌≡◌, ℕ, List, [], ◌∷◌, ◌++◌, drop, sym, ap, ap₂, ◌∙◌}
+use Rattle.std.proofs.Common.{ℕ, List, ◌++◌, drop, sym, ap, ap₂, ◌∙◌}
 use Rattle.std.proofs.lemmas.List.{append-nil}
-use Rattle.model.specs.Packet.{Packet, Departure}
+use Rattle.model.specs.Packet.{Packet}
 use Rattle.compiler.specs.Stands.{format_of}
 use Rattle.pipeline.specs.declared.loaded.Loaded.{Loaded}
 use Rattle.stream.specs.Writing.{sent}

@@ -1,4 +1,4 @@
-use Rattle.std.proofs.Common.{◌≡◌, ℕ, List, vec_items, vec_len, sym, refl, ap, ◌∙◌, subst, inl, inr}
+use Rattle.std.proofs.Common.{◌≡◌, ℕ, vec_items, vec_len, sym, refl, ap, ◌∙◌, subst, inl}
 use Rattle.model.specs.Answer.{Taken, OldPacketUnderWay}
 use Rattle.model.specs.Pipeline.{one_bit, takes}
 use Rattle.program.specs.Stands.{declarations_of}

@@ -1,4 +1,4 @@
-use Rattle.std.proofs.Common.{◌≡◌, ℕ, List, ◌++◌, drop, sym, refl, ap, ◌∙◌, inl, inr, arith}
+use Rattle.std.proofs.Common.{ℕ, List, ◌++◌, drop, refl, ap, ◌∙◌, inl, arith}
 use Rattle.stream.specs.Frames.{Source}
 use Rattle.switch.proofs.Loads.{load_refused}
 use Rattle.switch.proofs.switch.Switch.source.Goals as goal

@@ -1,5 +1,4 @@
-use Rattle.std.proofs.Common.{◌≡◌, ◌≤◌, length, sym, ◌∙◌, arith}
-use Rattle.frames.specs.Reading as reading
+use Rattle.std.proofs.Common.{◌≤◌, length, sym, arith}
 use Rattle.frames.proofs.Parts.{whole_size}
 use Rattle.switch.specs.Stands.{mode_of}
 use Rattle.switch.proofs.Steps.{empty_waits, cut_waits, pause_does, whole_does, unknown_does}

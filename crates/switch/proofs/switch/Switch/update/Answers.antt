@@ -1,4 +1,4 @@
-use Rattle.std.proofs.Common.{◌≡◌, refl, inl, inr, arith}
+use Rattle.std.proofs.Common.{refl, inl, arith}
 use Rattle.stream.specs.Frames.{Update}
 use Rattle.switch.proofs.switch.Switch.update.Goals as goal
 

@@ -1,8 +1,8 @@
-use Rattle.std.proofs.Common.{◌≡◌, ℕ, ◌<◌, ◌≤◌, Bool, true, false, List, [], length, get_or, vec_items, sym, refl, ap, ◌∙◌, arith}
+use Rattle.std.proofs.Common.{◌≡◌, ◌<◌, ◌≤◌, true, false, List, [], length, get_or, vec_items, sym, ap, ◌∙◌, arith}
 use mathlib.Core.Path.{fun_ext}
 use Rattle.model.specs.Table.{Entry, Tables}
 use Rattle.table.specs.Stands.{tables_of}
-use Rattle.table.proofs.Stored.{all, kept, same_more, same_all}
+use Rattle.table.proofs.Stored.{kept, same_more, same_all}
 use Rattle.table.proofs.store.Tables.forget.Goals as goal
 
 pub loop-k-preserved : goal.loop-k-preserved

@@ -1,7 +1,7 @@
-use Rattle.std.proofs.Common.{◌≡◌, ℕ, ◌<◌, Bool, true, false, cond, eqb, List, [], length, get_or, vec_items, sym, ap, ◌∙◌, arith}
+use Rattle.std.proofs.Common.{◌<◌, true, false, cond, eqb, List, [], length, get_or, vec_items, ap, ◌∙◌, arith}
 use mathlib.Core.Path.{fun_ext}
 use Rattle.model.specs.Table as table
-use Rattle.table.specs.Stands.{entries_of, tables_of}
+use Rattle.table.specs.Stands.{entries_of}
 use Rattle.table.specs.declared.entry.Entry.{Entry}
 use Rattle.table.proofs.Stored.{all, replaced, kept}
 use Rattle.table.proofs.store.Tables.give.Goals as goal

@@ -1,7 +1,6 @@
-use Rattle.std.proofs.Common.{◌≡◌, true, false, List, [], ◌∷◌, vec_items, sym, refl, ap, ◌∙◌}
-use Rattle.std.specs.Vec.Iter.{into_iter_items, into_iter_len}
+use Rattle.std.proofs.Common.{◌≡◌, true, false, List, [], vec_items, sym, ap, ◌∙◌}
+use Rattle.std.specs.Vec.Iter.{into_iter_items}
 use Rattle.std.proofs.lemmas.List.{nil_from_length}
-use Rattle.model.specs.Table as table
 use Rattle.model.specs.Version.{edited_all}
 use Rattle.table.specs.Stands.{tables_of, edits_of}
 use Rattle.table.specs.declared.entry.Edit.{Edit}

@@ -1,4 +1,4 @@
-use Rattle.std.proofs.Common.{◌≡◌, sym, ◌∙◌}
+use Rattle.std.proofs.Common.{sym, ◌∙◌}
 use Rattle.token.specs.Stands.{lead_of}
 use Rattle.token.proofs.Cuts.{token_taken}
 use Rattle.token.proofs.scanner.Scanner.next.Goals as goal

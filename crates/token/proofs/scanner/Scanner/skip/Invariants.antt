@@ -1,4 +1,4 @@
-use Rattle.std.proofs.Common.{◌≡◌, ◌+◌, ◌<◌, length}
+use Rattle.std.proofs.Common.{◌≡◌, ◌+◌, length}
 use Rattle.token.specs.Tokens.{tokens_from}
 use Rattle.token.proofs.scanner.Scanner.skip.Given as goal
 

@@ -2,9 +2,8 @@ use Rattle.std.proofs.Common.{◌≡◌, ℕ, ◌+◌, ◌-◌, ◌<◌, List, [
 use Rattle.std.proofs.lemmas.List.{length-set, take_more_set, map_push}
 use Rattle.model.specs.Action as action
 use Rattle.program.specs.Stands.{declarations_of, table_of, action_of}
-use Rattle.program.specs.declared.action.Action.{Action}
 use Rattle.table.specs.Stands.{actions_of}
-use Rattle.update.specs.Decoded.{Decoded, Then}
+use Rattle.update.specs.Decoded.{Decoded}
 use Rattle.update.specs.Decoding.{actions_at}
 use Rattle.update.specs.Stands.{Refuses}
 use Rattle.update.proofs.Loops.{actions_more, actions_end}

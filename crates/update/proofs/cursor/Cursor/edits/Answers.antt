@@ -4,7 +4,7 @@ use Rattle.model.specs.Version as version
 use Rattle.program.specs.Stands.{declarations_of}
 use Rattle.table.specs.Stands.{edit_of, edits_of}
 use Rattle.table.specs.declared.entry.Edit.{Edit}
-use Rattle.update.specs.Decoded.{Decoded, Then}
+use Rattle.update.specs.Decoded.{Decoded}
 use Rattle.update.specs.Decoding.{edit_at, edits_at}
 use Rattle.update.specs.Stands.{Refuses}
 use Rattle.update.proofs.Loops.{edits_more, edits_end}

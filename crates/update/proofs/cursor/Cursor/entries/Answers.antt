@@ -3,8 +3,7 @@ use Rattle.std.proofs.lemmas.List.{map_push}
 use Rattle.model.specs.Table as table
 use Rattle.program.specs.Stands.{declarations_of, table_of}
 use Rattle.table.specs.Stands.{entry_of, entries_of}
-use Rattle.table.specs.declared.entry.Entry.{Entry}
-use Rattle.update.specs.Decoded.{Decoded, Then}
+use Rattle.update.specs.Decoded.{Decoded}
 use Rattle.update.specs.Decoding.{entries_at}
 use Rattle.update.specs.Stands.{Refuses}
 use Rattle.update.proofs.Loops.{entries_more, entries_end}

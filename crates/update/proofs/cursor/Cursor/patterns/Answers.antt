@@ -1,10 +1,10 @@
-use Rattle.std.proofs.Common.{◌≡◌, ℕ, ◌+◌, ◌<◌, ◌≤◌, List, [], ◌∷◌, ◌++◌, length, get_or, take, drop, set, sym, refl, ap, ◌∙◌, subst, ap₂, zero-le, arith}
+use Rattle.std.proofs.Common.{◌≡◌, ℕ, ◌+◌, ◌<◌, List, [], ◌∷◌, ◌++◌, length, get_or, take, drop, set, sym, refl, ap, ◌∙◌, subst, ap₂, zero-le, arith}
 use Rattle.std.proofs.lemmas.List.{length-set, take_more_set, length-take-le}
 use Rattle.model.specs.Table.{Pattern}
 use Rattle.program.specs.Stands.{declarations_of, numbers_of}
 use Rattle.program.specs.declared.field.FieldNo.{FieldNo}
 use Rattle.table.specs.Stands.{patterns_of}
-use Rattle.update.specs.Decoded.{Decoded, Then}
+use Rattle.update.specs.Decoded.{Decoded}
 use Rattle.update.specs.Decoding.{pattern_at, patterns_at}
 use Rattle.update.specs.Stands.{Refuses}
 use Rattle.update.proofs.Loops.{patterns_more, patterns_end, patterns_push}
