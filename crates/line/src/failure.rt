@@ -10,6 +10,8 @@ pub(crate) enum Failure {
     Input(io::Error),
     Output(io::Error),
     Memory,
+    // A program's source came, which cannot be read yet.
+    Source,
 }
 
 impl From<AllocError> for Failure {
@@ -27,6 +29,9 @@ impl fmt::Display for Failure {
             Failure::Input(error) => write!(f, "cannot read the input: {error}"),
             Failure::Output(error) => write!(f, "cannot write the output: {error}"),
             Failure::Memory => f.write_str("out of memory"),
+            Failure::Source => f.write_str(
+                "a source frame came, and line cannot read a source yet",
+            ),
         }
     }
 }

@@ -1,62 +1,45 @@
-// An input from its beginning to its end, with each answer written before the next read.
+// Serving an input to its end, with each answer written before the next read.
+ghost use Rattle.std.specs.Prelude.{◌≤◌, length, IfOk};
+
 use crate::failure::Failure;
 use crate::window::Window;
+use frames::served::Served;
+use frames::server::serve;
+use std::alloc::AllocError;
 use std::io::{Read, Write};
-use switch::feeding::LONGEST_ANSWER;
-use switch::stepping::Progress;
-use switch::switch::Switch;
-
-// As much as is written at once.
-const PIECE: usize = 1_048_576;
 
 pub(crate) fn stream(rt: &HostRuntime, input: &mut impl Read) -> Result<(), Failure> {
-    let mut switch = Switch::new(rt.alloc());
     let mut window = Window::new(rt.alloc())?;
-    let mut out = vec![in rt.alloc(); 0; PIECE]?;
+    let mut out = Vec::new(rt.alloc());
     // Nothing says that an input ends, so the reads are counted; none counts so far.
     for _ in 0..u64::MAX {
         let more = window.fill(input)?;
-        serve(rt, &mut switch, &mut window, &mut out)?;
-        if switch.has_stopped() {
-            return Ok(());
+        let stopped = serve_all(window.held(), !more, &mut out);
+        if let Err(error) = rt.stdout().write_all(&out) {
+            return Err(Failure::Output(error));
         }
-        if !more {
-            return finish(rt, &switch, window.held(), &mut out);
-        }
-    }
-    Ok(())
-}
-
-// Does all whole frames that are held, and writes what they are answered.
-fn serve(
-    rt: &HostRuntime,
-    switch: &mut Switch,
-    window: &mut Window,
-    out: &mut [u8],
-) -> Result<(), Failure> {
-    for _ in 0..u64::MAX {
-        let Progress { used, written } = switch.feed(window.held(), out);
-        write(rt, &out[0..written])?;
-        window.release(used);
-        // There was room for one answer more, so no whole frame is left.
-        if used == 0 || out.len() - written >= LONGEST_ANSWER {
-            return Ok(());
+        out.clear();
+        let (used, served) = stopped?;
+        match served {
+            Served::End => return Ok(()),
+            Served::AtSource => return Err(Failure::Source),
+            Served::More | Served::Frame { .. } => window.release(used),
         }
     }
     Ok(())
 }
 
-// The input has ended.
-fn finish(rt: &HostRuntime, switch: &Switch, left: &[u8], out: &mut [u8]) -> Result<(), Failure> {
-    let Ok(written) = switch.finish(left, out) else {
-        return Ok(());
-    };
-    write(rt, &out[0..written])
-}
-
-fn write(rt: &HostRuntime, bytes: &[u8]) -> Result<(), Failure> {
-    match rt.stdout().write_all(bytes) {
-        Ok(()) => Ok(()),
-        Err(error) => Err(Failure::Output(error)),
+// Serves the frames at the front of `bytes` one after the other: how many bytes they are, and what
+// stopped it.
+fn serve_all(bytes: &[u8], ended: bool, out: &mut Vec<u8>) -> Result<(usize, Served), AllocError>
+    ensures { IfOk result (λ p. p.0 ≤ length bytes.now) }
+{
+    let mut at = 0;
+    loop {
+        let served = serve(&bytes[at..], ended, out)?;
+        let Served::Frame { used } = served else {
+            return Ok((at, served));
+        };
+        at += used;
     }
 }

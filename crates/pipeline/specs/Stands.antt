@@ -1,8 +1,7 @@
 -- What the pipeline's values stand for in the model. Every function is total.
-use Rattle.std.specs.Prelude.{ℕ, Bool, false, List, map, take, vec_items, slice_index_or}
+use Rattle.std.specs.Prelude.{ℕ, ◌-◌, Bool, false, cond, List, map, length, take, vec_items, ◌==◌, slice_index, slice_index_or}
 use Rattle.std.specs.Bool.{beq}
 use Rattle.model.specs.Packet as packet
-pub use Rattle.model.specs.Packet.{besides}
 use Rattle.model.specs.Stage.{Transit}
 use Rattle.model.specs.Version.{Version, empty}
 use Rattle.model.specs.Pipeline as model
@@ -28,6 +27,10 @@ version_of l t newest = record { declarations = declarations_of l.declarations; 
 -- versions by their bit
 abbrev pub versions_of : Loaded → Tables → Bool → Bool → Version
 versions_of l t newest v = version_of l t (beq v newest)
+
+-- behind the 64 fields of a program: field 64 says which headers are there, 65 how long the payload is, and from 66 on it stands byte by byte
+abbrev pub besides : ℕ → List ℕ → packet.Packet
+besides present bytes f = cond (f == 64) present (cond (f == 65) (length bytes) (slice_index bytes (f - 66)))
 
 abbrev pub payload_of : Payload → packet.Packet
 payload_of p = besides p.present (take p.length p.bytes)

@@ -1,0 +1,47 @@
+// The switch as a program: frames in, frames out, as a stream.
+#![tactic(auto)]
+
+mod arguments;
+mod failure;
+mod stream;
+mod window;
+
+use arguments::Arguments;
+use failure::Failure;
+use std::fs;
+use std::io::Write;
+use stream::stream;
+
+const HELP: &str = "\
+usage: switch_line [FILE]
+Reads frames from FILE, or from standard input, and writes a frame for each answer.
+  --help     print this text
+  --version  print the version
+";
+
+fn main(rt: HostRuntime) -> Result<(), Failure> {
+    let result = run(&rt);
+    if let Err(failure) = &result {
+        let _ = eprintln!(rt; "switch_line: {failure}");
+    }
+    result
+}
+
+fn run(rt: &HostRuntime) -> Result<(), Failure> {
+    match Arguments::read(rt)? {
+        Arguments::Help => print(rt, HELP),
+        Arguments::Version => print(rt, "switch_line 0.1.0\n"),
+        Arguments::Input => stream(rt, &mut rt.stdin()),
+        Arguments::File(path) => match fs::open(rt, path.as_str()) {
+            Ok(mut file) => stream(rt, &mut file),
+            Err(error) => Err(Failure::Open(path, error)),
+        },
+    }
+}
+
+fn print(rt: &HostRuntime, text: &str) -> Result<(), Failure> {
+    match rt.stdout().write_all(text.as_bytes()) {
+        Ok(()) => Ok(()),
+        Err(error) => Err(Failure::Output(error)),
+    }
+}
