@@ -5,7 +5,7 @@ use Rattle.packet.specs.Stands.{headers_of}
 use Rattle.program.specs.declared.headers.Headers.{Headers}
 use Rattle.program.specs.declared.declarations.Declarations.{Declarations}
 use Rattle.compiler.specs.Program as program
-use Rattle.compiler.specs.declared.program.Program.{Program}
+use Rattle.compiler.specs.declared.compiled.Program.{Program}
 
 abbrev pub format_of : Headers → Declarations → program.Format
 format_of hs d = record { headers = headers_of hs; first = hs.first.at; declarations = declarations_of d; tables = vec_len d.tables }

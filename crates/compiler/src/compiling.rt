@@ -10,8 +10,8 @@ ghost use Rattle.compiler.specs.Refusals.{Refuses, Unreadable};
 ghost use Rattle.compiler.specs.Stands.{program_of};
 ghost use Rattle.model.specs.Stopping.{placement as placement_of};
 
+use crate::compiled::Program;
 use crate::packaging::packaged;
-use crate::program::Program;
 use crate::refusal::Refusal;
 use placement::{Fault as Misplaced, place};
 use program::node::Node;

@@ -2,8 +2,8 @@
 #![tactic(auto)]
 
 mod after;
+pub mod compiled;
 pub mod compiling;
 mod headers;
 mod packaging;
-pub mod program;
 pub mod refusal;

@@ -6,8 +6,8 @@ ghost use Rattle.compiler.specs.declared.refusal.Refusal.TheVariants.{Memory};
 ghost use Rattle.compiler.specs.Packaging.{packaged as packaged_in, or_first};
 ghost use Rattle.compiler.specs.Stands.{program_of};
 
+use crate::compiled::Program;
 use crate::headers::headers;
-use crate::program::Program;
 use crate::refusal::Refusal;
 use program::declarations::Declarations;
 use program::headers::HeaderNo;

@@ -1,6 +1,6 @@
 -- What is read is what is written.
 use Rattle.std.proofs.Common.{◌≡◌, ℕ, zero, suc, ◌+◌, ◌*◌, ◌/◌, ◌%◌, ◌^◌, ◌<◌, ◌≤◌, Bool, true, false, cond, ltb, leb, List, [], ◌∷◌, ◌++◌, length, sym, refl, ap, ◌∙◌, ap₂, arith}
-use Rattle.std.specs.List.{AllByRecursion as All}
+use Rattle.std.specs.List.{AllByRecursion}
 use Rattle.std.proofs.lemmas.List.{append_assoc, append-nil}
 use Rattle.std.proofs.lemmas.Bool.{ltb-true, leb-true}
 use Rattle.model.specs.Declarations.{Declarations, TableDeclaration}
@@ -20,7 +20,7 @@ pub record Took {A : Type 0} (bytes : A → List ℕ) (Fine : A → Type 0) (bs 
   pub behind : ℕ
   pub rest : List ℕ
   pub split : bs ≡ bytes value ++ rest
-  pub small : All Byte rest
+  pub small : AllByRecursion Byte rest
   pub fine : Fine value
   pub on : k value behind rest ≡ Taken gs
 
@@ -48,7 +48,7 @@ word_again a b c d h i j =
     let q : (((a * 256 + b) * 256 + c) * 256 + d) % 65536 ≡ c * 256 + d = omega arith in
     ap₂ (λ (m n : ℕ). half m ++ half n) p q ∙ ap₂ (λ (xs ys : List ℕ). xs ++ ys) (half_again a b h) (half_again c d j)
 
-pub half_back : (at : ℕ) (bs : List ℕ) (k : Then ℕ) (gs : List Edit) → All Byte bs → half_at at bs k ≡ Taken gs → Took half (λ n. n < 65536) bs k gs
+pub half_back : (at : ℕ) (bs : List ℕ) (k : Then ℕ) (gs : List Edit) → AllByRecursion Byte bs → half_at at bs k ≡ Taken gs → Took half (λ n. n < 65536) bs k gs
 half_back at [] k gs s e = refused _ gs e
 half_back at (a ∷ []) k gs s e = refused _ gs e
 half_back at (a ∷ (b ∷ bs)) k gs s e = record {
@@ -61,7 +61,7 @@ half_back at (a ∷ (b ∷ bs)) k gs s e = record {
   on = e;
 }
 
-word_back : (at : ℕ) (bs : List ℕ) (k : Then ℕ) (gs : List Edit) → All Byte bs → word_at at bs k ≡ Taken gs → Took word (λ n. n < 2 ^ 32) bs k gs
+word_back : (at : ℕ) (bs : List ℕ) (k : Then ℕ) (gs : List Edit) → AllByRecursion Byte bs → word_at at bs k ≡ Taken gs → Took word (λ n. n < 2 ^ 32) bs k gs
 word_back at [] k gs s e = refused _ gs e
 word_back at (a ∷ []) k gs s e = refused _ gs e
 word_back at (a ∷ (b ∷ [])) k gs s e = refused _ gs e
@@ -79,19 +79,19 @@ word_back at (a ∷ (b ∷ (c ∷ (d ∷ bs)))) k gs s e = record {
 abbrev pub single : ℕ → List ℕ
 single n = n ∷ []
 
-field_back : (d : Declarations) (at : ℕ) (bs : List ℕ) (k : Then ℕ) (gs : List Edit) → All Byte bs → field_at d at bs k ≡ Taken gs → Took single (FieldThere d) bs k gs
+field_back : (d : Declarations) (at : ℕ) (bs : List ℕ) (k : Then ℕ) (gs : List Edit) → AllByRecursion Byte bs → field_at d at bs k ≡ Taken gs → Took single (FieldThere d) bs k gs
 field_back d at [] k gs s e = refused _ gs e
 field_back d at (f ∷ bs) k gs s e =
     let p = passed (is_there d f) (k f (at + 1) bs) (NoField at) gs e in
     record { value = f; behind = at + 1; rest = bs; split = refl; small = s.1; fine = record { there = p.yes_so; one_byte = s.0 }; on = p.on }
 
-settable_back : (t : TableDeclaration) (at : ℕ) (bs : List ℕ) (k : Then ℕ) (gs : List Edit) → All Byte bs → settable_at t at bs k ≡ Taken gs → Took single (Settable t) bs k gs
+settable_back : (t : TableDeclaration) (at : ℕ) (bs : List ℕ) (k : Then ℕ) (gs : List Edit) → AllByRecursion Byte bs → settable_at t at bs k ≡ Taken gs → Took single (Settable t) bs k gs
 settable_back t at [] k gs s e = refused _ gs e
 settable_back t at (f ∷ bs) k gs s e =
     let p = passed (among f t.sets) (k f (at + 1) bs) (NotItsField at) gs e in
     record { value = f; behind = at + 1; rest = bs; split = refl; small = s.1; fine = record { may_set = p.yes_so; one_byte = s.0 }; on = p.on }
 
-operand_by_lem : (d : Declarations) (from kind at : ℕ) (bs : List ℕ) (k : Then Operand) (gs : List Edit) → All Byte bs → operand_by d from kind at bs k ≡ Taken gs →
+operand_by_lem : (d : Declarations) (from kind at : ℕ) (bs : List ℕ) (k : Then Operand) (gs : List Edit) → AllByRecursion Byte bs → operand_by d from kind at bs k ≡ Taken gs →
     Took operand_bytes (OperandFits d) (kind ∷ bs) k gs
 operand_by_lem d from zero at bs k gs s e =
     let r = word_back at bs (λ n. k (Number n)) gs s e in
@@ -101,7 +101,7 @@ operand_by_lem d from (suc zero) at bs k gs s e =
     record { value = Field r.value; behind = r.behind; rest = r.rest; split = ap (λ (xs : List ℕ). 1 ∷ xs) r.split; small = r.small; fine = r.fine; on = r.on }
 operand_by_lem d from (suc (suc kind)) at bs k gs s e = refused _ gs e
 
-operand_back : (d : Declarations) (at : ℕ) (bs : List ℕ) (k : Then Operand) (gs : List Edit) → All Byte bs → operand_at d at bs k ≡ Taken gs → Took operand_bytes (OperandFits d) bs k gs
+operand_back : (d : Declarations) (at : ℕ) (bs : List ℕ) (k : Then Operand) (gs : List Edit) → AllByRecursion Byte bs → operand_at d at bs k ≡ Taken gs → Took operand_bytes (OperandFits d) bs k gs
 operand_back d at [] k gs s e = refused _ gs e
 operand_back d at (b ∷ bs) k gs s e = operand_by_lem d at b (at + 1) bs k gs s.1 e
 
@@ -112,12 +112,12 @@ record Aims (d : Declarations) (t : TableDeclaration) (change : ℕ → Operand 
   behind : ℕ
   rest : List ℕ
   split : bs ≡ field ∷ (operand_bytes operand ++ rest)
-  small : All Byte rest
+  small : AllByRecursion Byte rest
   settable : Settable t field
   fits : OperandFits d operand
   on : k (change field operand) behind rest ≡ Taken gs
 
-aims : (d : Declarations) (t : TableDeclaration) (change : ℕ → Operand → Action) (at : ℕ) (bs : List ℕ) (k : Then Action) (gs : List Edit) → All Byte bs →
+aims : (d : Declarations) (t : TableDeclaration) (change : ℕ → Operand → Action) (at : ℕ) (bs : List ℕ) (k : Then Action) (gs : List Edit) → AllByRecursion Byte bs →
     settable_at t at bs (λ f behind rest. operand_at d behind rest (λ o. k (change f o))) ≡ Taken gs → Aims d t change bs k gs
 aims d t change at bs k gs s e =
     let r = settable_back t at bs (λ f behind rest. operand_at d behind rest (λ o. k (change f o))) gs s e in
@@ -134,7 +134,7 @@ aims d t change at bs k gs s e =
       on = o.on;
     }
 
-action_by : (d : Declarations) (t : TableDeclaration) (from kind at : ℕ) (bs : List ℕ) (k : Then Action) (gs : List Edit) → All Byte bs →
+action_by : (d : Declarations) (t : TableDeclaration) (from kind at : ℕ) (bs : List ℕ) (k : Then Action) (gs : List Edit) → AllByRecursion Byte bs →
     change_by from kind (λ change behind rest. settable_at t behind rest (λ f behind2 rest2. operand_at d behind2 rest2 (λ o. k (change f o)))) at bs ≡ Taken gs →
     Took action_bytes (ActionFits d t) (kind ∷ bs) k gs
 action_by d t from zero at bs k gs s e = refused _ gs e
@@ -146,7 +146,7 @@ action_by d t from (suc (suc zero)) at bs k gs s e =
     record { value = Add r.field r.operand; behind = r.behind; rest = r.rest; split = ap (λ (xs : List ℕ). 2 ∷ xs) r.split; small = r.small; fine = (r.settable, r.fits); on = r.on }
 action_by d t from (suc (suc (suc kind))) at bs k gs s e = refused _ gs e
 
-action_back : (d : Declarations) (t : TableDeclaration) (at : ℕ) (bs : List ℕ) (k : Then Action) (gs : List Edit) → All Byte bs → action_at d t at bs k ≡ Taken gs → Took action_bytes (ActionFits d t) bs k gs
+action_back : (d : Declarations) (t : TableDeclaration) (at : ℕ) (bs : List ℕ) (k : Then Action) (gs : List Edit) → AllByRecursion Byte bs → action_at d t at bs k ≡ Taken gs → Took action_bytes (ActionFits d t) bs k gs
 action_back d t at [] k gs s e = refused _ gs e
 action_back d t at (b ∷ bs) k gs s e = action_by d t at b (at + 1) bs k gs s.1 e
 
@@ -157,7 +157,7 @@ pub record Many {A : Type 0} (bytes : List A → List ℕ) (Fine : List A → Ty
   pub behind : ℕ
   pub rest : List ℕ
   pub split : bs ≡ bytes values ++ rest
-  pub small : All Byte rest
+  pub small : AllByRecursion Byte rest
   pub fine : Fine values
   pub on : k (done ++ values) behind rest ≡ Taken gs
 
@@ -170,8 +170,8 @@ one_more {A} done x xs k at bs gs e = ap (λ (ys : List A). k ys at bs) (sym (ap
 pub together : (bs xs rest ys more : List ℕ) → bs ≡ xs ++ rest → rest ≡ ys ++ more → bs ≡ (xs ++ ys) ++ more
 together bs xs rest ys more e f = e ∙ (ap (λ (zs : List ℕ). xs ++ zs) f ∙ sym (append_assoc xs ys more))
 
-actions_back : (d : Declarations) (t : TableDeclaration) (n : ℕ) (done : List Action) (at : ℕ) (bs : List ℕ) (k : Then (List Action)) (gs : List Edit) → All Byte bs →
-    actions_at d t n done at bs k ≡ Taken gs → Many actions_bytes (All (ActionFits d t)) n done bs k gs
+actions_back : (d : Declarations) (t : TableDeclaration) (n : ℕ) (done : List Action) (at : ℕ) (bs : List ℕ) (k : Then (List Action)) (gs : List Edit) → AllByRecursion Byte bs →
+    actions_at d t n done at bs k ≡ Taken gs → Many actions_bytes (AllByRecursion (ActionFits d t)) n done bs k gs
 unfolding actions_at
 actions_back d t zero done at bs k gs s e = record { values = []; count = refl; behind = at; rest = bs; split = refl; small = s; fine = tt; on = none_more done k at bs gs e }
 actions_back d t (suc n) done at bs k gs s e =
@@ -188,7 +188,7 @@ actions_back d t (suc n) done at bs k gs s e =
       on = one_more done r.value m.values k m.behind m.rest gs m.on;
     }
 
-fitting_back : (width at : ℕ) (bs : List ℕ) (k : Then ℕ) (gs : List Edit) → All Byte bs → fitting_at width at bs k ≡ Taken gs → Took word (Fits width) bs k gs
+fitting_back : (width at : ℕ) (bs : List ℕ) (k : Then ℕ) (gs : List Edit) → AllByRecursion Byte bs → fitting_at width at bs k ≡ Taken gs → Took word (Fits width) bs k gs
 fitting_back width at bs k gs s e =
     let r = word_back at bs (λ x behind rest. cond (ltb x (2 ^ width)) (k x behind rest) (Refused (TooWide at))) gs s e in
     let p = passed (ltb r.value (2 ^ width)) (k r.value r.behind r.rest) (TooWide at) gs r.on in
@@ -202,7 +202,7 @@ fitting_back width at bs k gs s e =
       on = p.on;
     }
 
-pattern_back : (width at : ℕ) (bs : List ℕ) (k : Then Pattern) (gs : List Edit) → All Byte bs → pattern_at width at bs k ≡ Taken gs → Took pattern_bytes (PatternFits width) bs k gs
+pattern_back : (width at : ℕ) (bs : List ℕ) (k : Then Pattern) (gs : List Edit) → AllByRecursion Byte bs → pattern_at width at bs k ≡ Taken gs → Took pattern_bytes (PatternFits width) bs k gs
 pattern_back width at bs k gs s e =
     let r = fitting_back width at bs (λ v behind rest. fitting_at width behind rest (λ m. k (record { value = v; mask = m }))) gs s e in
     let m = fitting_back width r.behind r.rest (λ m. k (record { value = r.value; mask = m })) gs r.small r.on in
@@ -216,7 +216,7 @@ pattern_back width at bs k gs s e =
       on = m.on;
     }
 
-patterns_back : (d : Declarations) (fs : List ℕ) (done : List Pattern) (at : ℕ) (bs : List ℕ) (k : Then (List Pattern)) (gs : List Edit) → All Byte bs →
+patterns_back : (d : Declarations) (fs : List ℕ) (done : List Pattern) (at : ℕ) (bs : List ℕ) (k : Then (List Pattern)) (gs : List Edit) → AllByRecursion Byte bs →
     patterns_at d fs done at bs k ≡ Taken gs → Many patterns_bytes (PatternsFit d fs) (length fs) done bs k gs
 unfolding patterns_at PatternsFit
 patterns_back d [] done at bs k gs s e = record { values = []; count = refl; behind = at; rest = bs; split = refl; small = s; fine = tt; on = none_more done k at bs gs e }
@@ -234,7 +234,7 @@ patterns_back d (f ∷ fs) done at bs k gs s e =
       on = one_more done r.value m.values k m.behind m.rest gs m.on;
     }
 
-count_back : (at : ℕ) (bs : List ℕ) (k : Then ℕ) (gs : List Edit) → All Byte bs → count_at at bs k ≡ Taken gs → Took single (λ n. n ≤ 4) bs k gs
+count_back : (at : ℕ) (bs : List ℕ) (k : Then ℕ) (gs : List Edit) → AllByRecursion Byte bs → count_at at bs k ≡ Taken gs → Took single (λ n. n ≤ 4) bs k gs
 count_back at [] k gs s e = refused _ gs e
 count_back at (n ∷ bs) k gs s e =
     let p = passed (leb n 4) (k n (at + 1) bs) (TooManyActions at) gs e in
@@ -244,7 +244,7 @@ entry_split : (bs ps rest : List ℕ) (n m : ℕ) (left xs more : List ℕ) → 
 entry_split bs ps rest n m left xs more q e f g =
     e ∙ (ap (λ (zs : List ℕ). ps ++ zs) (f ∙ ap₂ (λ (i : ℕ) (zs : List ℕ). i ∷ zs) (sym q) g) ∙ sym (append_assoc ps (m ∷ xs) more))
 
-entry_back : (d : Declarations) (t : TableDeclaration) (at : ℕ) (bs : List ℕ) (k : Then Entry) (gs : List Edit) → All Byte bs → entry_at d t at bs k ≡ Taken gs → Took entry_bytes (EntryFits d t) bs k gs
+entry_back : (d : Declarations) (t : TableDeclaration) (at : ℕ) (bs : List ℕ) (k : Then Entry) (gs : List Edit) → AllByRecursion Byte bs → entry_at d t at bs k ≡ Taken gs → Took entry_bytes (EntryFits d t) bs k gs
 entry_back d t at bs k gs s e =
     let p = patterns_back d t.looks [] at bs (λ ps behind rest. count_at behind rest (λ n behind2 rest2. actions_at d t n [] behind2 rest2 (λ xs. k (record { patterns = ps; actions = xs })))) gs s e in
     let c = count_back p.behind p.rest (λ n behind2 rest2. actions_at d t n [] behind2 rest2 (λ xs. k (record { patterns = p.values; actions = xs }))) gs p.small p.on in
@@ -259,8 +259,8 @@ entry_back d t at bs k gs s e =
       on = m.on;
     }
 
-pub entries_back : (d : Declarations) (t : TableDeclaration) (n : ℕ) (done : List Entry) (at : ℕ) (bs : List ℕ) (k : Then (List Entry)) (gs : List Edit) → All Byte bs →
-    entries_at d t n done at bs k ≡ Taken gs → Many entries_bytes (All (EntryFits d t)) n done bs k gs
+pub entries_back : (d : Declarations) (t : TableDeclaration) (n : ℕ) (done : List Entry) (at : ℕ) (bs : List ℕ) (k : Then (List Entry)) (gs : List Edit) → AllByRecursion Byte bs →
+    entries_at d t n done at bs k ≡ Taken gs → Many entries_bytes (AllByRecursion (EntryFits d t)) n done bs k gs
 unfolding entries_at
 entries_back d t zero done at bs k gs s e = record { values = []; count = refl; behind = at; rest = bs; split = refl; small = s; fine = tt; on = none_more done k at bs gs e }
 entries_back d t (suc n) done at bs k gs s e =

@@ -1,6 +1,6 @@
 -- An update that is read is well formed, and its bytes are those that are written for it.
 use Rattle.std.proofs.Common.{◌≡◌, ℕ, zero, suc, ◌+◌, ◌<◌, ◌≤◌, Bool, true, false, cond, ltb, leb, List, [], ◌∷◌, ◌++◌, length, sym, refl, ap, ◌∙◌, subst, ap₂, arith}
-use Rattle.std.specs.List.{AllByRecursion as All}
+use Rattle.std.specs.List.{AllByRecursion}
 use Rattle.std.proofs.lemmas.List.{append_assoc, append-nil}
 use Rattle.std.proofs.lemmas.Bool.{ltb-true, leb-true}
 use Rattle.model.specs.Declarations.{Declarations, TableDeclaration}
@@ -27,7 +27,7 @@ failed : (b : Bool) (x : Decoded) (f : Fault) (gs : List Edit) → cond b (Refus
 failed true x f gs e = refused f gs e
 failed false x f gs e = record { no_so = refl; on = e }
 
-table_back : (tables : ℕ) (before : List Edit) (at : ℕ) (bs : List ℕ) (k : Then ℕ) (gs : List Edit) → All Byte bs → table_at tables before at bs k ≡ Taken gs → Took single (Fresh tables before) bs k gs
+table_back : (tables : ℕ) (before : List Edit) (at : ℕ) (bs : List ℕ) (k : Then ℕ) (gs : List Edit) → AllByRecursion Byte bs → table_at tables before at bs k ≡ Taken gs → Took single (Fresh tables before) bs k gs
 table_back tables before at [] k gs s e = refused _ gs e
 table_back tables before at (t ∷ bs) k gs s e =
     let p = passed (ltb t tables) (cond (among t (named before)) (Refused (TableTwice at)) (k t (at + 1) bs)) (NoTable at) gs e in
@@ -46,7 +46,7 @@ record Sized (t : TableDeclaration) (n : ℕ) : Type 0 where
   few : n ≤ t.lines
   two_bytes : n < 65536
 
-size_back : (t : TableDeclaration) (at : ℕ) (bs : List ℕ) (k : Then ℕ) (gs : List Edit) → All Byte bs → size_at t at bs k ≡ Taken gs → Took half (Sized t) bs k gs
+size_back : (t : TableDeclaration) (at : ℕ) (bs : List ℕ) (k : Then ℕ) (gs : List Edit) → AllByRecursion Byte bs → size_at t at bs k ≡ Taken gs → Took half (Sized t) bs k gs
 size_back t at bs k gs s e =
     let r = half_back at bs (λ n behind rest. cond (leb n t.lines) (k n behind rest) (Refused (TooManyEntries at))) gs s e in
     let p = passed (leb r.value t.lines) (k r.value r.behind r.rest) (TooManyEntries at) gs r.on in
@@ -67,7 +67,7 @@ record Edits (d : Declarations) (tables : ℕ) (before : List Edit) (bs : List �
   behind : ℕ
   rest : List ℕ
   split : bs ≡ edit_bytes (Replace table entries) ++ rest
-  small : All Byte rest
+  small : AllByRecursion Byte rest
   apart : among table (named before) ≡ false
   given : Given d tables table entries
   on : k (Replace table entries) behind rest ≡ Taken gs
@@ -76,7 +76,7 @@ edit_split : (bs : List ℕ) (t : ℕ) (rest : List ℕ) (n m : ℕ) (left xs mo
 edit_split bs t rest n m left xs more q e f g =
     e ∙ (ap (λ (zs : List ℕ). t ∷ zs) (f ∙ ap₂ (λ (i : ℕ) (zs : List ℕ). half i ++ zs) (sym q) g) ∙ ap (λ (zs : List ℕ). t ∷ zs) (sym (append_assoc (half m) xs more)))
 
-edit_back : (d : Declarations) (tables : ℕ) (before : List Edit) (at : ℕ) (bs : List ℕ) (k : Then Edit) (gs : List Edit) → All Byte bs → edit_at d tables before at bs k ≡ Taken gs → Edits d tables before bs k gs
+edit_back : (d : Declarations) (tables : ℕ) (before : List Edit) (at : ℕ) (bs : List ℕ) (k : Then Edit) (gs : List Edit) → AllByRecursion Byte bs → edit_at d tables before at bs k ≡ Taken gs → Edits d tables before bs k gs
 edit_back d tables before at bs k gs s e =
     let r = table_back tables before at bs (λ t behind rest. size_at (d.table t) behind rest (λ n behind2 rest2. entries_at d (d.table t) n [] behind2 rest2 (λ es. k (Replace t es)))) gs s e in
     let c = size_back (d.table r.value) r.behind r.rest (λ n behind2 rest2. entries_at d (d.table r.value) n [] behind2 rest2 (λ es. k (Replace r.value es))) gs r.small r.on in
@@ -101,9 +101,9 @@ edit_back d tables before at bs k gs s e =
 
 record AllFit (d : Declarations) (tables : ℕ) (before gs : List Edit) : Type 0 where
   apart : Apart before gs
-  each : All (EditFits d tables) gs
+  each : AllByRecursion (EditFits d tables) gs
 
-edits_back : (d : Declarations) (tables n : ℕ) (done : List Edit) (at : ℕ) (bs : List ℕ) (k : Then (List Edit)) (gs : List Edit) → All Byte bs →
+edits_back : (d : Declarations) (tables n : ℕ) (done : List Edit) (at : ℕ) (bs : List ℕ) (k : Then (List Edit)) (gs : List Edit) → AllByRecursion Byte bs →
     edits_at d tables n done at bs k ≡ Taken gs → Many edits_bytes (AllFit d tables done) n done bs k gs
 unfolding edits_at Apart
 edits_back d tables zero done at bs k gs s e =

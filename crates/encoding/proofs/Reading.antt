@@ -1,6 +1,6 @@
 -- What is written is read.
 use Rattle.std.proofs.Common.{◌≡◌, ℕ, ◌+◌, ◌*◌, ◌/◌, ◌%◌, ◌^◌, ◌<◌, ◌≤◌, false, cond, ltb, leb, List, [], ◌∷◌, ◌++◌, length, sym, ap, ◌∙◌, arith}
-use Rattle.std.specs.List.{AllByRecursion as All}
+use Rattle.std.specs.List.{AllByRecursion}
 use Rattle.std.proofs.lemmas.List.{append_assoc, append-nil}
 use Rattle.std.proofs.lemmas.Bool.{cond-true, cond-false, lt-ltb, le-leb}
 use Rattle.model.specs.Declarations.{Declarations, TableDeclaration}
@@ -51,7 +51,7 @@ action_read d t (Add f o) at rest h =
     let r = operand_read d o s.behind rest h.1 in
     record { behind = r.behind; is = λ k. s.is (λ g behind left. operand_at d behind left (λ p. k (Add g p))) ∙ r.is (λ p. k (Add f p)) }
 
-actions_read : (d : Declarations) (t : TableDeclaration) (xs done : List Action) (at : ℕ) (rest : List ℕ) → All (ActionFits d t) xs →
+actions_read : (d : Declarations) (t : TableDeclaration) (xs done : List Action) (at : ℕ) (rest : List ℕ) → AllByRecursion (ActionFits d t) xs →
     Reads (actions_at d t (length xs) done at (actions_bytes xs ++ rest)) (done ++ xs) rest
 unfolding actions_at
 actions_read d t [] done at rest h = record { behind = at; is = λ k. ap (λ (ys : List Action). k ys at rest) (sym (append-nil done)) }
@@ -109,7 +109,7 @@ entry_read d t e at rest h =
           ∙ m.is (λ xs. k (record { patterns = e.patterns; actions = xs }))));
     }
 
-entries_read : (d : Declarations) (t : TableDeclaration) (es done : List Entry) (at : ℕ) (rest : List ℕ) → All (EntryFits d t) es →
+entries_read : (d : Declarations) (t : TableDeclaration) (es done : List Entry) (at : ℕ) (rest : List ℕ) → AllByRecursion (EntryFits d t) es →
     Reads (entries_at d t (length es) done at (entries_bytes es ++ rest)) (done ++ es) rest
 unfolding entries_at
 entries_read d t [] done at rest h = record { behind = at; is = λ k. ap (λ (ys : List Entry). k ys at rest) (sym (append-nil done)) }
@@ -143,7 +143,7 @@ edit_read d tables before t es at rest a h =
           ∙ (c.is (λ n behind2 left2. entries_at d (d.table t) n [] behind2 left2 (λ xs. k (Replace t xs))) ∙ m.is (λ xs. k (Replace t xs)));
     }
 
-edits_read : (d : Declarations) (tables : ℕ) (gs done : List Edit) (at : ℕ) (rest : List ℕ) → Apart done gs → All (EditFits d tables) gs →
+edits_read : (d : Declarations) (tables : ℕ) (gs done : List Edit) (at : ℕ) (rest : List ℕ) → Apart done gs → AllByRecursion (EditFits d tables) gs →
     Reads (edits_at d tables (length gs) done at (edits_bytes gs ++ rest)) (done ++ gs) rest
 unfolding edits_at Apart
 edits_read d tables [] done at rest a h = record { behind = at; is = λ k. ap (λ (ys : List Edit). k ys at rest) (sym (append-nil done)) }

@@ -1,6 +1,6 @@
 -- What is written for an update is read as that update, and nothing else is.
 use Rattle.std.specs.Prelude.{◌≡◌, ℕ, ◌<◌, List}
-use Rattle.std.specs.List.{AllByRecursion as All}
+use Rattle.std.specs.List.{AllByRecursion}
 use Rattle.model.specs.Declarations.{Declarations}
 use Rattle.model.specs.Version.{Edit}
 use Rattle.update.specs.Decoded.{Taken}
@@ -13,7 +13,7 @@ Byte b = b < 256
 
 -- what is written are bytes
 abbrev pub OnlyBytes : Type 0
-OnlyBytes = (d : Declarations) (tables : ℕ) (gs : List Edit) → WellFormed d tables gs → All Byte (encoded gs)
+OnlyBytes = (d : Declarations) (tables : ℕ) (gs : List Edit) → WellFormed d tables gs → AllByRecursion Byte (encoded gs)
 
 abbrev pub RoundTrip : Type 0
 RoundTrip = (d : Declarations) (tables : ℕ) (gs : List Edit) → WellFormed d tables gs → decoded d tables (encoded gs) ≡ Taken gs
@@ -24,4 +24,4 @@ pub record Read (d : Declarations) (tables : ℕ) (bs : List ℕ) (gs : List Edi
   pub same_bytes : encoded gs ≡ bs
 
 abbrev pub OneEncoding : Type 0
-OneEncoding = (d : Declarations) (tables : ℕ) (bs : List ℕ) (gs : List Edit) → All Byte bs → decoded d tables bs ≡ Taken gs → Read d tables bs gs
+OneEncoding = (d : Declarations) (tables : ℕ) (bs : List ℕ) (gs : List Edit) → AllByRecursion Byte bs → decoded d tables bs ≡ Taken gs → Read d tables bs gs

@@ -1,6 +1,6 @@
 -- Updates that fit what a program declares, and whose numbers fit their bytes.
 use Rattle.std.specs.Prelude.{◌≡◌, ℕ, ◌^◌, ◌<◌, ◌≤◌, true, false, List, [], ◌∷◌, ◌++◌, length}
-use Rattle.std.specs.List.{AllByRecursion as All}
+use Rattle.std.specs.List.{AllByRecursion}
 use Rattle.model.specs.Declarations.{Declarations, TableDeclaration}
 use Rattle.model.specs.Action.{Operand, Field, Number, Action, Set, Add}
 use Rattle.model.specs.Table.{Pattern, Entry}
@@ -44,7 +44,7 @@ ActionFits d t (Add f o) = Settable t f × OperandFits d o
 pub record EntryFits (d : Declarations) (t : TableDeclaration) (e : Entry) : Type 0 where
   pub patterns : PatternsFit d t.looks e.patterns
   pub few_actions : length e.actions ≤ 4
-  pub actions : All (ActionFits d t) e.actions
+  pub actions : AllByRecursion (ActionFits d t) e.actions
 
 -- a table that is declared, and as many entries as it may have
 pub record Given (d : Declarations) (tables t : ℕ) (es : List Entry) : Type 0 where
@@ -52,7 +52,7 @@ pub record Given (d : Declarations) (tables t : ℕ) (es : List Entry) : Type 0 
   pub one_byte : t < 256
   pub few : length es ≤ (d.table t).lines
   pub two_bytes : length es < 65536
-  pub entries : All (EntryFits d (d.table t)) es
+  pub entries : AllByRecursion (EntryFits d (d.table t)) es
 
 abbrev pub EditFits : Declarations → ℕ → Edit → Type 0
 EditFits d tables (Replace t es) = Given d tables t es
@@ -65,4 +65,4 @@ Apart before (Replace t es ∷ gs) = (among t (named before) ≡ false) × Apart
 pub record WellFormed (d : Declarations) (tables : ℕ) (gs : List Edit) : Type 0 where
   pub few : length gs < 256
   pub apart : Apart [] gs
-  pub each : All (EditFits d tables) gs
+  pub each : AllByRecursion (EditFits d tables) gs

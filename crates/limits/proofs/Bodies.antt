@@ -1,6 +1,6 @@
 -- Rows and blocks: one more, one written anew, and what holds of them then.
 use Rattle.std.proofs.Common.{◌≡◌, ℕ, zero, suc, ◌+◌, ◌<◌, ◌≤◌, Bool, true, false, List, [], ◌∷◌, ◌++◌, length, set, Some, None, Option, sym, refl, subst, arith}
-use Rattle.std.specs.List.{AllByRecursion as All}
+use Rattle.std.specs.List.{AllByRecursion}
 use Rattle.std.proofs.lemmas.List.{length_push, length-set}
 use Rattle.std.proofs.ByRecursion.{All-weaker}
 use Rattle.model.specs.Action.{Operand}
@@ -32,7 +32,7 @@ rows_grown fs ts c n rs r e q h k =
     let l : n ≡ length (rs ++ r ∷ []) = omega (arith, length_push rs r) in
     subst (λ (m : ℕ). RowLimits fs ts m 0 (rs ++ r ∷ [])) l (rows_push fs ts n 0 rs r h (subst (λ (j : ℕ). DoingLimits fs ts n j r.doing) (omega arith) k))
 
-blocks_grown : (fs b c : ℕ) (bs : List Block) → b ≤ c → All (BlockSound fs b) bs → All (BlockSound fs c) bs
+blocks_grown : (fs b c : ℕ) (bs : List Block) → b ≤ c → AllByRecursion (BlockSound fs b) bs → AllByRecursion (BlockSound fs c) bs
 blocks_grown fs b c bs l h = All-weaker (BlockSound fs b) (BlockSound fs c) (block_more fs fs b c (omega arith) l) bs h
 
 pub row_state : (r : Row) (d : Seen) → State d → DoingLimits (length d.names.fields + 1) (length d.names.tables) (length d.body.rows + 1) (length d.body.rows) r.doing → State (add_row r d)
@@ -61,7 +61,7 @@ else_state i r t d s k j =
       blocks = blocks_grown _ (length d.body.rows) (length (set d.body.rows i r ++ t ∷ [])) d.body.blocks (omega (arith, length_push (set d.body.rows i r) t)) s.body.blocks;
     }) s
 
-pub blocks_state : (bs : List Block) (d : Seen) → State d → All (BlockSound (length d.names.fields + 1) (length d.body.rows)) bs → State (set_blocks bs d)
+pub blocks_state : (bs : List Block) (d : Seen) → State d → AllByRecursion (BlockSound (length d.names.fields + 1) (length d.body.rows)) bs → State (set_blocks bs d)
 blocks_state bs d s k = state_body _ d (record { rows = s.body.rows; blocks = k }) s
 
 pub applied_state : (n : ℕ) (d : Seen) → State d → State (set_applied n d)
@@ -131,10 +131,10 @@ abbrev pub Ending : (fields count : ℕ) → Option Block → Type 0
 Ending fields count None = Unit {0}
 Ending fields count (Some b) = BlockSound fields count b
 
-pub inner_sound : (fs c : ℕ) (bs : List Block) → All (BlockSound fs c) bs → Ending fs c (innermost bs)
+pub inner_sound : (fs c : ℕ) (bs : List Block) → AllByRecursion (BlockSound fs c) bs → Ending fs c (innermost bs)
 inner_sound fs c [] h = tt
 inner_sound fs c (b ∷ bs) h = h.0
 
-pub others_sound : (fs c : ℕ) (bs : List Block) → All (BlockSound fs c) bs → All (BlockSound fs c) (others bs)
+pub others_sound : (fs c : ℕ) (bs : List Block) → AllByRecursion (BlockSound fs c) bs → AllByRecursion (BlockSound fs c) (others bs)
 others_sound fs c [] h = tt
 others_sound fs c (b ∷ bs) h = h.1

@@ -1,6 +1,6 @@
 -- Choosing fields and choices: one more, and what holds of them then.
 use Rattle.std.proofs.Common.{◌≡◌, ℕ, zero, suc, ◌+◌, ◌<◌, ◌≤◌, true, false, cond, eqb, ◌⊎◌, List, [], ◌∷◌, ◌++◌, length, get_or, set, is_some, Some, None, Option, sym, refl, ap, ◌∙◌, subst, inl, inr, arith}
-use Rattle.std.specs.List.{AllByRecursion as All}
+use Rattle.std.specs.List.{AllByRecursion}
 use Rattle.std.proofs.lemmas.List.{length-set, get_or-set_same, get_or-set_other}
 use Rattle.std.proofs.ByRecursion.{All-push, All-weaker}
 use Rattle.std.proofs.lemmas.Bool.{cases_eq, eq-eqb, ne_eqb, cond-true, cond-false, both_ways}
@@ -62,7 +62,7 @@ own_put by h f fs b o own g x e = go (cases_eq g h)
         rw (q, ← k) o
     go (inr q) = own g x (sym (get_or-set_other by h g (Some f) None q) ∙ e)
 
-none_yet : (h : ℕ) (hs : List Entry) (by : List (Option ℕ)) (cs : List Choice) → is_some (get_or by h None) ≡ false → All (ChoiceSound hs by) cs → choices_of h cs ≡ 0
+none_yet : (h : ℕ) (hs : List Entry) (by : List (Option ℕ)) (cs : List Choice) → is_some (get_or by h None) ≡ false → AllByRecursion (ChoiceSound hs by) cs → choices_of h cs ≡ 0
 unfolding choices_of
 none_yet h hs by [] u a = refl
 none_yet h hs by (c ∷ cs) u a =

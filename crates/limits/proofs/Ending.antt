@@ -6,7 +6,7 @@ use Rattle.source.specs.State.{Change, Ask, Purpose, By, Listed, Target, Tested,
 use Rattle.source.specs.Steps.{Step, go, stop, is_end}
 use Rattle.source.specs.Using.{has_room_for, past}
 use Rattle.source.specs.Reading.{unnamed, complete, step, taken, refused, onward, run}
-use Rattle.std.specs.List.{AllByRecursion as All}
+use Rattle.std.specs.List.{AllByRecursion}
 use Rattle.limits.proofs.Words.{Proper}
 use Rattle.limits.proofs.Stepping.{After, goes, stops, if_kept, known_kept}
 
@@ -120,7 +120,7 @@ module _ (P : Phase → Seen → Type 0) where
       on (go q d) (goes r) h = more q d refl r h
       on (stop f) stops h = never f e h
 
-  pub run_keeps : (keeps : (p : Phase) (d : Seen) (x : Token) → Proper x → P p d → After P (step p d x)) (ts : List Token) → Ended ts → All Proper ts → (p : Phase) (d e : Seen) → P p d → run p d ts ≡ taken e → AtEnd Item e
+  pub run_keeps : (keeps : (p : Phase) (d : Seen) (x : Token) → Proper x → P p d → After P (step p d x)) (ts : List Token) → Ended ts → AllByRecursion Proper ts → (p : Phase) (d e : Seen) → P p d → run p d ts ≡ taken e → AtEnd Item e
   unfolding run Ended
   run_keeps keeps [] t a p d e h r = absurd t
   run_keeps keeps (x ∷ xs) t a p d e h r =

@@ -1,6 +1,6 @@
 -- The limits hold of every program that is read.
 use Rattle.std.proofs.Common.{◌≡◌, ℕ, zero, suc, ◌<◌, ◌≤◌, true, cond, List, [], ◌∷◌, length, get_or, replicate, is_some, Some, None, Option, sym, refl, arith}
-use Rattle.std.specs.List.{AllByRecursion as All}
+use Rattle.std.specs.List.{AllByRecursion}
 use Rattle.std.proofs.lemmas.Bool.{false≢true}
 use Rattle.token.specs.Tokens.{tokens}
 use Rattle.source.specs.State.{Next, Ends, Header, Later, Never, Choice, Item, nothing}
@@ -74,7 +74,7 @@ none_else : (a b : Option ℕ) → or_else a b ≡ None → (a ≡ None) × (b �
 none_else (Some n) b e = none_some n (sym e)
 none_else None b e = (refl, e)
 
-all_follow : (hs : List Entry) (by : List (Option ℕ)) (cs : List Choice) → Numbered 0 hs → All (ChoiceSound hs by) cs → unnamed hs cs ≡ None → All (ChoiceLimits hs by) cs
+all_follow : (hs : List Entry) (by : List (Option ℕ)) (cs : List Choice) → Numbered 0 hs → AllByRecursion (ChoiceSound hs by) cs → unnamed hs cs ≡ None → AllByRecursion (ChoiceLimits hs by) cs
 unfolding unnamed
 all_follow hs by [] n a e = tt
 all_follow hs by (c ∷ cs) n a e =

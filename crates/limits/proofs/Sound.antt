@@ -1,6 +1,6 @@
 -- What holds of all that has been read so far, and what holds in each phase besides.
 use Rattle.std.proofs.Common.{◌≡◌, ℕ, ◌+◌, ◌-◌, ◌^◌, ◌<◌, ◌≤◌, min, true, false, List, [], ◌∷◌, ◌++◌, length, get_or, is_some, Some, None, Option}
-use Rattle.std.specs.List.{AllByRecursion as All}
+use Rattle.std.specs.List.{AllByRecursion}
 use Rattle.model.specs.Action.{Operand}
 use Rattle.source.specs.Names.{Entry, Field, find}
 use Rattle.source.specs.State.{Names, Next, Ends, Header, Later, Never, Choice, Routes, Tables, Body, Fork, Detour, Block, Do, Yes, No, Goal, Change, Ask, Purpose, By, Listed, Target, Tested, Operates, HeaderPhase, HeaderName, HeaderOpen, FieldName, FieldWidth, FieldEnd, RoutePhase, FirstName, FirstEnd, AfterName, AfterBy, ChoiceValue, ChoiceColon, ChoiceNext, ChoiceEnd, TablePhase, TableName, TableOpen, LookWord, SetsWord, ListStart, LinesWord, Lines, LinesEnd, TableClose, FieldPhase, Named, Behind, Member, Past, BodyPhase, DoOpen, Statement, ApplyName, ApplyEnd, Value, Settle, BehindYes, ElseOpen, Phase, Item, InHeader, InRoute, InTable, InField, InBody, Seen}
@@ -24,9 +24,9 @@ pub record NamesSound (n : Names) : Type 0 where
 pub record TablesSound (fields : ℕ) (t : Tables) : Type 0 where
   pub few_looks : length t.looks ≤ 4
   pub few_sets : length t.sets ≤ 8
-  pub looks_there : All (Below fields) t.looks
-  pub sets_there : All (Below fields) t.sets
-  pub declared : All (TableLimits fields) t.declared
+  pub looks_there : AllByRecursion (Below fields) t.looks
+  pub sets_there : AllByRecursion (Below fields) t.sets
+  pub declared : AllByRecursion (TableLimits fields) t.declared
 
 -- the first header, if it is known, is one of so many
 abbrev pub FirstBelow : Option ℕ → ℕ → Type 0
@@ -51,7 +51,7 @@ pub record RoutesSound (hs : List Entry) (fs : List Field) (r : Routes) : Type 0
   pub eight : length r.by ≡ 8
   pub own : (h f : ℕ) → get_or r.by h None ≡ Some f → Owns h f fs
   pub few : (h : ℕ) → choices_of h r.choices ≤ 8
-  pub choices : All (ChoiceSound hs r.by) r.choices
+  pub choices : AllByRecursion (ChoiceSound hs r.by) r.choices
 
 pub record ForkSound (fields count : ℕ) (f : Fork) : Type 0 where
   pub there : f.index < count
@@ -64,7 +64,7 @@ BlockSound fields count (No t) = t.index < count
 
 pub record BodySound (fields tables : ℕ) (b : Body) : Type 0 where
   pub rows : RowLimits fields tables (length b.rows) 0 b.rows
-  pub blocks : All (BlockSound fields (length b.rows)) b.blocks
+  pub blocks : AllByRecursion (BlockSound fields (length b.rows)) b.blocks
 
 pub record State (d : Seen) : Type 0 where
   pub names : NamesSound d.names

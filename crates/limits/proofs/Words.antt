@@ -1,6 +1,6 @@
 -- Words among the tokens of a source have at least one byte.
 use Rattle.std.proofs.Common.{◌≡◌, ℕ, zero, suc, ◌+◌, ◌-◌, ◌^◌, ◌≤◌, Bool, true, false, cond, ◌&&◌, eqb, ltb, List, [], ◌∷◌, length, take, Some, None, Option, sym, refl, subst, arith}
-use Rattle.std.specs.List.{AllByRecursion as All}
+use Rattle.std.specs.List.{AllByRecursion}
 use Rattle.token.specs.declared.token.Sign.{Sign}
 use Rattle.token.specs.declared.token.Sign.TheVariants.{Equals}
 use Rattle.token.specs.declared.token.Stretch.TheVariants.{Run}
@@ -48,11 +48,11 @@ lead_word b bs w e = go (is_alphanumeric b) refl e
     go true q e = let r : w ≡ take (front Run (b ∷ bs)) (b ∷ bs) = run_word (take (front Run (b ∷ bs)) (b ∷ bs)) w e in subst (λ (v : List ℕ). 1 ≤ length v) (sym r) (run_some b bs q)
     go false q e = signs (eqb b 61 && begins 61 bs) e
 
-all_if : (t : Bool) (xs ys : List Token) → All Proper xs → All Proper ys → All Proper (cond t xs ys)
+all_if : (t : Bool) (xs ys : List Token) → AllByRecursion Proper xs → AllByRecursion Proper ys → AllByRecursion Proper (cond t xs ys)
 all_if true xs ys h k = h
 all_if false xs ys h k = k
 
-pub tokens_proper : (k i : ℕ) (bs : List ℕ) → All Proper (tokens_behind k i bs)
+pub tokens_proper : (k i : ℕ) (bs : List ℕ) → AllByRecursion Proper (tokens_behind k i bs)
 unfolding tokens_behind
 tokens_proper k i [] = (record { some = λ w e. never w e }, tt)
 tokens_proper (suc k) i (b ∷ bs) = tokens_proper k (i + 1) bs

@@ -1,6 +1,6 @@
 -- Limits on the first header and on the choices behind headers.
 use Rattle.std.specs.Prelude.{◌≡◌, ℕ, ◌+◌, ◌^◌, ◌<◌, ◌≤◌, true, cond, ◌⊎◌, List, [], ◌∷◌, length, is_some, Some, None, Option, ◌==◌, slice_index_or}
-use Rattle.std.specs.List.{AllByRecursion as All}
+use Rattle.std.specs.List.{AllByRecursion}
 use Rattle.source.specs.Names.{Entry, Field, find}
 use Rattle.source.specs.State.{Next, Ends, Header, Later, Never, Choice, Routes}
 
@@ -51,4 +51,4 @@ pub record RouteLimits (hs : List Entry) (fs : List Field) (r : Routes) : Type 0
   pub eight : length r.by ≡ 8
   pub own : (h f : ℕ) → slice_index_or r.by h None ≡ Some f → Owns h f fs
   pub few : (h : ℕ) → choices_of h r.choices ≤ 8
-  pub choices : All (ChoiceLimits hs r.by) r.choices
+  pub choices : AllByRecursion (ChoiceLimits hs r.by) r.choices

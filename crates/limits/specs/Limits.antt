@@ -1,6 +1,6 @@
 -- The limits that hold of every program that is read.
 use Rattle.std.specs.Prelude.{◌≡◌, ℕ, ◌+◌, ◌<◌, true, List, [], length}
-use Rattle.std.specs.List.{AllByRecursion as All}
+use Rattle.std.specs.List.{AllByRecursion}
 use Rattle.source.specs.State.{Seen}
 use Rattle.source.specs.Reading.{taken, read_source}
 use Rattle.limits.specs.Naming.{EntryLimits, FieldLimits, WidthLimits, Wide}
@@ -20,7 +20,7 @@ pub record Limits (d : Seen) : Type 0 where
   pub whole : (h : ℕ) → h < length d.names.headers → WholeBytes (bits_of d.names.fields d.names.widths h)
   -- as many tables are declared as are named
   pub all_declared : length d.tables.declared ≡ length d.names.tables
-  pub each_declared : All (TableLimits (length d.names.fields + 1)) d.tables.declared
+  pub each_declared : AllByRecursion (TableLimits (length d.names.fields + 1)) d.tables.declared
   pub routes : RouteLimits d.names.headers d.names.fields d.routes
   pub rows : RowLimits (length d.names.fields + 1) (length d.names.tables) (length d.body.rows) 0 d.body.rows
   pub once : Once [] (paths_through d.body.end d.body.rows)

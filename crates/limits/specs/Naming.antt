@@ -1,6 +1,6 @@
 -- Limits on what is named: how many, which numbers, which names, and how wide a field.
 use Rattle.std.specs.Prelude.{◌≡◌, ℕ, ◌<◌, ◌≤◌, false, List, [], ◌∷◌, length, ◌≢◌, slice_index, slice_index_or}
-use Rattle.std.specs.List.{AllByRecursion as All}
+use Rattle.std.specs.List.{AllByRecursion}
 use Rattle.source.specs.Names.{Entry, Field}
 use Rattle.source.specs.Declaring.{is_out}
 use Rattle.limits.specs.Numbering.{Numbered, FieldsNumbered, Rising}
@@ -27,17 +27,17 @@ FieldUnlike f g = g.header ≡ f.header → g.name ≢ f.name
 
 unfoldable pub Apart : List Entry → Type 0
 Apart [] = Unit {0}
-Apart (e ∷ es) = All (Unlike e) es × Apart es
+Apart (e ∷ es) = AllByRecursion (Unlike e) es × Apart es
 
 unfoldable pub FieldsApart : List Field → Type 0
 FieldsApart [] = Unit {0}
-FieldsApart (f ∷ fs) = All (FieldUnlike f) fs × FieldsApart fs
+FieldsApart (f ∷ fs) = AllByRecursion (FieldUnlike f) fs × FieldsApart fs
 
 -- headers, or tables, up to a limit
 pub record EntryLimits (limit : ℕ) (es : List Entry) : Type 0 where
   pub few : length es ≤ limit
   pub numbered : Numbered 0 es
-  pub names : All EntryNameLimits es
+  pub names : AllByRecursion EntryNameLimits es
   pub apart : Apart es
 
 -- fields but for `out`, whose number is 0: those of a header stand together, in the order of the headers, of which there are so many
@@ -45,7 +45,7 @@ pub record FieldLimits (headers : ℕ) (fs : List Field) : Type 0 where
   pub few : length fs ≤ 63
   pub numbered : FieldsNumbered 1 fs
   pub rising : Rising 0 headers fs
-  pub names : All FieldNameLimits fs
+  pub names : AllByRecursion FieldNameLimits fs
   pub apart : FieldsApart fs
 
 -- the widths by a field's number, where so many are declared behind `out`: that one has 8 bits, and a field that is not declared has none

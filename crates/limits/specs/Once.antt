@@ -1,6 +1,6 @@
 -- No table is applied twice on a path through a program.
 use Rattle.std.specs.Prelude.{◌≡◌, ℕ, List, ◌∷◌, map}
-use Rattle.std.specs.List.{AllByRecursion as All}
+use Rattle.std.specs.List.{AllByRecursion}
 use Rattle.model.specs.Paths.{Paths, Stop, Apply, Branch, Act}
 use Rattle.model.specs.Statements as statements
 use Rattle.model.specs.Statements.{Statement, statement, program_of}
@@ -27,6 +27,6 @@ Other t u = u ≡ t → ⊥
 -- no table stands twice, nor one that was applied before
 unfoldable pub Once : (before : List ℕ) → Paths → Type 0
 Once before (Stop o) = Unit {0}
-Once before (Apply o t x) = All (Other t) before × Once (t ∷ before) x
+Once before (Apply o t x) = AllByRecursion (Other t) before × Once (t ∷ before) x
 Once before (Branch o c x y) = Once before x × Once before y
 Once before (Act o a x) = Once before x

@@ -1,6 +1,6 @@
 -- Limits on a table that is declared.
 use Rattle.std.specs.Prelude.{ℕ, ◌≤◌, length}
-use Rattle.std.specs.List.{AllByRecursion as All}
+use Rattle.std.specs.List.{AllByRecursion}
 use Rattle.model.specs.Declarations.{TableDeclaration}
 use Rattle.limits.specs.Numbering.{Below}
 
@@ -10,5 +10,5 @@ pub record TableLimits (fields : ℕ) (t : TableDeclaration) : Type 0 where
   pub few_sets : length t.sets ≤ 8
   pub some_lines : 1 ≤ t.lines
   pub few_lines : t.lines ≤ 256
-  pub looks_there : All (Below fields) t.looks
-  pub sets_there : All (Below fields) t.sets
+  pub looks_there : AllByRecursion (Below fields) t.looks
+  pub sets_there : AllByRecursion (Below fields) t.sets

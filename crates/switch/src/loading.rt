@@ -8,8 +8,8 @@ ghost use Rattle.stream.specs.Writing.{told};
 ghost use Rattle.switch.specs.Stands.{running_of};
 
 use crate::running::Running;
+use compiler::compiled::Program;
 use compiler::compiling::{Compiled, compile};
-use compiler::program::Program;
 use compiler::refusal::Refusal;
 use pipeline::loaded::Loaded;
 use pipeline::pipeline::Pipeline;

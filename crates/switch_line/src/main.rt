@@ -3,14 +3,14 @@
 
 mod arguments;
 mod failure;
-mod stream;
+mod streaming;
 mod window;
 
 use arguments::Arguments;
 use failure::Failure;
 use std::fs;
 use std::io::Write;
-use stream::stream;
+use streaming::stream;
 
 const HELP: &str = "\
 usage: switch_line [FILE]

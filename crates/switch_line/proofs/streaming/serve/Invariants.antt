@@ -1,5 +1,5 @@
 use Rattle.std.proofs.Common.{◌≡◌, length}
-use Rattle.switch_line.proofs.stream.serve.Given as goal
+use Rattle.switch_line.proofs.streaming.serve.Given as goal
 
 -- the place for answers keeps its size
 abbrev pub invariant-loop : goal.invariant-loop
