@@ -16,6 +16,7 @@ use source::reading::read;
 use source::seen::Seen;
 use std::fs;
 use std::io::{Read, Write};
+use std::process::ExitCode;
 
 const HELP: &str = "\
 usage: lay [FILE]
@@ -25,12 +26,14 @@ A source that is refused gives a line with its code and offset, and status 1.
   --version  print the version
 ";
 
-fn main(rt: HostRuntime) -> Result<(), Failure> {
-    let result = run(&rt);
-    if let Err(failure) = &result {
-        let _ = eprintln!(rt; "lay: {failure}");
+fn main(rt: HostRuntime) -> ExitCode {
+    match run(&rt) {
+        Ok(()) => ExitCode::SUCCESS,
+        Err(failure) => {
+            let _ = eprintln!(rt; "lay: {failure}");
+            ExitCode::FAILURE
+        }
     }
-    result
 }
 
 fn run(rt: &HostRuntime) -> Result<(), Failure> {

@@ -10,6 +10,7 @@ use arguments::Arguments;
 use failure::Failure;
 use std::fs;
 use std::io::Write;
+use std::process::ExitCode;
 use stream::stream;
 
 const HELP: &str = "\
@@ -19,12 +20,14 @@ Reads frames from FILE, or from standard input, and writes a frame for each answ
   --version  print the version
 ";
 
-fn main(rt: HostRuntime) -> Result<(), Failure> {
-    let result = run(&rt);
-    if let Err(failure) = &result {
-        let _ = eprintln!(rt; "line: {failure}");
+fn main(rt: HostRuntime) -> ExitCode {
+    match run(&rt) {
+        Ok(()) => ExitCode::SUCCESS,
+        Err(failure) => {
+            let _ = eprintln!(rt; "line: {failure}");
+            ExitCode::FAILURE
+        }
     }
-    result
 }
 
 fn run(rt: &HostRuntime) -> Result<(), Failure> {
