@@ -4,9 +4,9 @@
 usage: tools/respell.py [--check]
 
 It goes by what the .antt files of crates/ declare: valueOf and value-of become value_of, Round-trip becomes RoundTrip. Each whole word that is
-spelled like such a name turns, in .antt and .rt files and in what stands behind the names of docs/. What Rattle makes of the source keeps its name:
-what stands right behind a dot of c, w, l, g or goal in a function's own proof files, and what is imported from a function's Goals or Given. Where two names would fall together the
-script says so and writes nothing. --check writes nothing.
+spelled like such a name turns, in .antt and .rt files, but for quoted text and the library's names. What Rattle makes of the source keeps its name:
+what stands right behind a dot of c, w, l, g or goal in a function's own proof files, and what is imported from a function's Goals or Given. Where two
+names would fall together the script says so and writes nothing. --check writes nothing.
 """
 
 import collections
