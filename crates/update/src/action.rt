@@ -9,7 +9,7 @@ use crate::cursor::Cursor;
 use crate::fault::Fault;
 use program::action::{Action, Operand};
 use program::declarations::{Declarations, TableDeclaration};
-use program::field::{FieldNo, Widths};
+use program::field::FieldNo;
 
 // Which of the two actions it is.
 #[derive(Clone, Copy)]
@@ -114,25 +114,11 @@ fn changed(change: Change, field: FieldNo, operand: Operand) -> Action
 fn known(declarations: &Declarations, f: u8) -> Option<FieldNo>
     ensures { Found result (is_there (declarations_of declarations.now) f) f }
 {
-    if width_of(declarations.widths, f) == 0 {
+    let field = FieldNo::new(f as usize)?;
+    if declarations.widths.get(field).bits == 0 {
         return None;
     }
-    if f < 64 {
-        return Some(FieldNo { at: f });
-    }
-    None
-}
-
-// The bits of a field; one past the last has none.
-pub(crate) fn width_of(widths: Widths, f: u8) -> u8
-    ensures value { result ≡ slice_index widths.bits f }
-    ensures narrow { result ≤ 32 }
-    ensures past { 64 ≤ f → result ≡ 0 }
-{
-    if f < 64 {
-        return widths.bits[f as usize];
-    }
-    0
+    Some(field)
 }
 
 // The field of this number among others.
