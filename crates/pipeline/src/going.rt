@@ -48,12 +48,6 @@ pub(crate) fn go(
             test,
             passed,
             failed,
-        } => {
-            if passes(fields, test) {
-                passed
-            } else {
-                failed
-            }
-        }
+        } => { if passes(fields, test) { passed } else { failed } }
     }
 }

@@ -1,6 +1,6 @@
 // The actions of an entry.
-ghost use Rattle.std.specs.Prelude.{◌≡◌, ℕ, ◌≤◌, cond, List, IfOk, slice_index};
-ghost use Rattle.program.specs.Stands.{operand_of, action_of, declarations_of, table_of, numbers_of};
+ghost use Rattle.std.specs.Prelude.{◌≡◌, ℕ, ◌≤◌, cond, List, IfOk, nat_lt, slice_index};
+ghost use Rattle.program.specs.Stands.{bits_of, operand_of, action_of, declarations_of, table_of, numbers_of};
 ghost use Rattle.update.specs.Decoded.{Refused, NoField};
 ghost use Rattle.update.specs.Decoding.{among, is_there, field_at, operand_at, change_by, settable_at, action_at, count_at};
 ghost use Rattle.update.specs.Stands.{Gives, Found, change_of};
@@ -9,7 +9,7 @@ use crate::cursor::Cursor;
 use crate::fault::Fault;
 use program::action::{Action, Operand};
 use program::declarations::{Declarations, TableDeclaration};
-use program::field::FieldNo;
+use program::field::{FieldNo, Widths};
 
 // Which of the two actions it is.
 #[derive(Clone, Copy)]
@@ -71,7 +71,7 @@ impl Cursor<'_> {
     {
         let at = self.at;
         let f = self.byte()?;
-        match known(declarations, f) {
+        match known(declarations.widths, f) {
             Some(field) => Ok(field),
             None => Err(Fault::NoField(at)),
         }
@@ -111,11 +111,11 @@ fn changed(change: Change, field: FieldNo, operand: Operand) -> Action
 }
 
 // A field is there if it has a width.
-fn known(declarations: &Declarations, f: u8) -> Option<FieldNo>
-    ensures { Found result (is_there (declarations_of declarations.now) f) f }
+fn known(widths: Widths, f: u8) -> Option<FieldNo>
+    ensures { Found result (nat_lt 0 (slice_index (bits_of widths) f)) f }
 {
     let field = FieldNo::new(f as usize)?;
-    if declarations.widths.get(field).bits == 0 {
+    if widths.get(field).bits == 0 {
         return None;
     }
     Some(field)
