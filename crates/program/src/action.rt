@@ -21,3 +21,10 @@ pub enum Action {
     Set(FieldNo, Operand),
     Add(FieldNo, Operand),
 }
+
+// What stands in the unused places of a row of actions.
+impl Default for Action {
+    fn default() -> Action {
+        Action::Set(FieldNo { at: 0 }, Operand::Number(0))
+    }
+}
