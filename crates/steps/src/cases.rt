@@ -19,10 +19,9 @@ use table::lookup::chosen;
 fn told(node: &Node) -> (u16, Option<u8>, u16, u16) {
     match node.does {
         Does::Halt => (node.stage, None, 0, 0),
-        Does::Set(change) => (node.stage, None, change.next, 0),
-        Does::Add(change) => (node.stage, None, change.next, 0),
-        Does::Look(lookup) => (node.stage, Some(lookup.table.at), lookup.next, 0),
-        Does::Ask(question) => (node.stage, None, question.passed, question.failed),
+        Does::Act { next, .. } => (node.stage, None, next, 0),
+        Does::Look { table, next } => (node.stage, Some(table.at), next, 0),
+        Does::Ask { passed, failed, .. } => (node.stage, None, passed, failed),
     }
 }
 

@@ -12,11 +12,11 @@ use Rattle.model.specs.Action.{act, acts}
 use Rattle.model.specs.Table as table
 use Rattle.model.specs.Table.{fits, first_fit, chosen, chosen_by, agrees, no_entry}
 use Rattle.program.specs.Stands.{over, numbers_of, action_of, kind_of, table_of}
+use Rattle.program.specs.Stands.{FieldNo}
 use Rattle.program.specs.declared.action.Action.{Action}
 use Rattle.program.specs.declared.declarations.MatchKind.{MatchKind}
 use Rattle.program.specs.declared.declarations.MatchKind.TheVariants.{Ternary}
 use Rattle.program.specs.declared.declarations.TableDeclaration.{TableDeclaration}
-use Rattle.program.specs.declared.field.FieldNo.{FieldNo}
 use Rattle.program.specs.declared.field.Fields.{Fields}
 use Rattle.table.specs.Stands.{pattern_of, patterns_of, entry_of, entries_of, actions_of}
 use Rattle.table.specs.declared.entry.Pattern.{Pattern}
@@ -51,13 +51,15 @@ abbrev pub agree : List FieldNo → List ℕ → Entry → Bool
 agree fs x e = list_all (λ (p : FieldNo × Pattern). agrees (pattern_of p.1) (slice_index x p.0.at)) (zip fs e.patterns.items)
 
 -- fields are numbered below 64, so that it doesn't matter what stands behind them
+pub low : (x : Fields) (f : FieldNo) (base : Packet) → over x base f.at ≡ slice_index x.of f.at
+low x f base = rw (lt-ltb f.at 64 f.ok) refl
+
 same_pairs : (fs : List FieldNo) (ws : List Pattern) (x : Fields) (base : Packet) →
     list_all (λ (p : FieldNo × Pattern). agrees (pattern_of p.1) (over x base p.0.at)) (zip fs ws) ≡ list_all (λ (p : FieldNo × Pattern). agrees (pattern_of p.1) (slice_index x.of p.0.at)) (zip fs ws)
 same_pairs [] ws x base = refl
 same_pairs (f ∷ fs) [] x base = refl
 same_pairs (f ∷ fs) (w ∷ ws) x base =
-    let low : over x base f.at ≡ slice_index x.of f.at = rw (lt-ltb f.at 64 f.ok) refl in
-    ap₂ (λ (n : ℕ) (b : Bool). agrees (pattern_of w) n && b) low (same_pairs fs ws x base)
+    ap₂ (λ (n : ℕ) (b : Bool). agrees (pattern_of w) n && b) (low x f base) (same_pairs fs ws x base)
 
 pub fits_agree : (fs : List FieldNo) (e : Entry) (x : Fields) (base : Packet) → fits (numbers_of fs) (entry_of e).patterns (over x base) ≡ agree fs x.of e
 fits_agree fs e x base = fits_pairs fs e.patterns.items (over x base) ∙ same_pairs fs e.patterns.items x base

@@ -70,25 +70,22 @@ fn act_by(fields: &mut Fields, declarations: &Declarations, entries: &[Entry], a
     }
 }
 
-// Whether a pattern agrees with a field on all bits of its mask: both sides are masked.
-fn agrees(field: u32, pattern: Pattern) -> bool
-    ensures { result ≡ agrees_in (pattern_of pattern) field }
+// Whether a field agrees with a pattern on all bits of its mask: both sides are masked.
+fn agrees(fields: &Fields, field: FieldNo, pattern: Pattern) -> bool
+    ensures { result ≡ agrees_in (pattern_of pattern) (slice_index fields.now.of field.at) }
 {
-    field & pattern.mask == pattern.value & pattern.mask
+    let x = fields.get(field);
+    x & pattern.mask == pattern.value & pattern.mask
 }
 
 // Whether these patterns fit the fields that are looked at.
 fn fits(looks: &[FieldNo], patterns: &[Pattern], fields: &Fields) -> bool
     ensures { result ≡ list_all (λ p. agrees_in (pattern_of p.1) (slice_index fields.now.of p.0.at)) (zip looks.now patterns.now) }
 {
-    looks.iter().zip(patterns).all(|(field, pattern)| agrees(field_at(fields, *field), *pattern))
-}
-
-// What a field holds.
-fn field_at(fields: &Fields, field: FieldNo) -> u32
-    ensures { result ≡ slice_index fields.now.of field.at }
-{
-    fields.of[field.at as usize]
+    looks
+        .iter()
+        .zip(patterns)
+        .all(|(field, pattern)| agrees(fields, *field, *pattern))
 }
 
 // The index of the first entry that fits the fields.

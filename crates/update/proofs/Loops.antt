@@ -10,7 +10,7 @@ use Rattle.update.specs.Stands.{Refuses, Gives}
 use Rattle.update.specs.declared.fault.Fault.{Fault}
 use Rattle.std.proofs.lemmas.List.{drop_more, drop_all}
 use Rattle.program.specs.Stands.{numbers_of}
-use Rattle.program.specs.declared.field.FieldNo.{FieldNo}
+use Rattle.program.specs.Stands.{FieldNo}
 use Rattle.update.specs.Decoding.{action_at, actions_at, pattern_at, patterns_at, entry_at, entries_at, edit_at, edits_at}
 
 pub actions_more : (d : Declarations) (t : TableDeclaration) (n : ℕ) (done : List Action) (at : ℕ) (bs : List ℕ) (k : Then (List Action)) → 0 < n →

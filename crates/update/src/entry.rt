@@ -5,23 +5,22 @@ ghost use Rattle.table.specs.Stands.{pattern_of, entry_of};
 ghost use Rattle.update.specs.Decoding.{fitting_at, pattern_at, patterns_at, entry_at, actions_at};
 ghost use Rattle.update.specs.Stands.{Gives, actions_listed, patterns_listed};
 
-use crate::action::width_of;
 use crate::cursor::Cursor;
 use crate::fault::Fault;
 use arrayvec::ArrayVec;
 use program::action::Action;
 use program::declarations::{Declarations, TableDeclaration};
+use program::field::Width;
 use table::entry::{Entry, Pattern};
 
 impl Cursor<'_> {
     // A number that fits so many bits.
-    fn fitting(&mut self, width: u8) -> Result<u32, Fault>
-        requires { width ≤ 32 }
-        ensures { Gives (fitting_at width self.old.at self.old.rest.now) result (λ x. x) self.new.at self.new.rest.now }
+    fn fitting(&mut self, width: Width) -> Result<u32, Fault>
+        ensures { Gives (fitting_at width.bits self.old.at self.old.rest.now) result (λ x. x) self.new.at self.new.rest.now }
     {
         let at = self.at;
         let x = self.word()?;
-        if u64::from(x) >= 1u64 << width {
+        if u64::from(x) >= 1u64 << width.bits {
             return Err(Fault::TooWide(at));
         }
         Ok(x)
@@ -57,15 +56,14 @@ impl Cursor<'_> {
             if patterns.is_full() {
                 return Err(Fault::NoMemory);
             }
-            patterns.push(self.pattern(width_of(declarations.widths, field.at))?);
+            patterns.push(self.pattern(declarations.widths.get(*field))?);
         }
         Ok(patterns)
     }
 
     // A value and a mask that fit so many bits.
-    fn pattern(&mut self, width: u8) -> Result<Pattern, Fault>
-        requires { width ≤ 32 }
-        ensures { Gives (pattern_at width self.old.at self.old.rest.now) result pattern_of self.new.at self.new.rest.now }
+    fn pattern(&mut self, width: Width) -> Result<Pattern, Fault>
+        ensures { Gives (pattern_at width.bits self.old.at self.old.rest.now) result pattern_of self.new.at self.new.rest.now }
     {
         let value = self.fitting(width)?;
         let mask = self.fitting(width)?;

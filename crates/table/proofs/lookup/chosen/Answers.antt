@@ -1,7 +1,7 @@
 use Rattle.std.proofs.Common.{◌≡◌, ℕ, List, length, vec_items, Option, ap, ◌∙◌}
 use Rattle.std.specs.List.{position}
 use Rattle.std.specs.Option.{unwrap_or}
-use Rattle.program.specs.declared.field.FieldNo.{FieldNo}
+use Rattle.program.specs.Stands.{FieldNo}
 use Rattle.table.proofs.Fitting.{agree, chosen_is}
 use Rattle.table.proofs.lookup.chosen.Goals as goal
 
