@@ -33,8 +33,8 @@ fn write(out: &mut Vec<u8>, edits: &[Edit]) -> Result<(), Unwritten>
         return Err(Unwritten::TooMany);
     }
     bytes(out, &[edits.len() as u8])?;
-    for k in 0..edits.len() {
-        edit(out, &edits[k])?;
+    for one in edits {
+        edit(out, one)?;
     }
     Ok(())
 }
@@ -48,10 +48,8 @@ fn edit(out: &mut Vec<u8>, edit: &Edit) -> Result<(), Unwritten>
     if count > 65535 {
         return Err(Unwritten::TooMany);
     }
-    bytes(
-        out,
-        &[edit.table.at, (count / 256) as u8, (count % 256) as u8],
-    )?;
+    let [high, low] = (count as u16).to_be_bytes();
+    bytes(out, &[edit.table.at, high, low])?;
     entries(out, &edit.entries)?;
     Ok(())
 }

@@ -1,60 +1,58 @@
 // Writing entries. For want of memory a writer leaves what was there before at the front.
-ghost use Rattle.std.specs.Prelude.{[], ◌∷◌, ◌++◌, take};
+ghost use Rattle.std.specs.Prelude.{[], ◌∷◌, length};
 ghost use Rattle.program.specs.Stands.{operand_of, action_of};
-ghost use Rattle.table.specs.Stands.{patterns_of, entry_of, entries_of, actions_of};
-ghost use Rattle.encoding.specs.Encoded.{word, operand_bytes, action_bytes, actions_bytes, patterns_bytes, entry_bytes, entries_bytes};
+ghost use Rattle.table.specs.Stands.{pattern_of, patterns_of, entry_of, entries_of, actions_of};
+ghost use Rattle.encoding.specs.Encoded.{word, operand_bytes, action_bytes, actions_bytes, pattern_bytes, patterns_bytes, entry_bytes, entries_bytes};
 ghost use Rattle.encoding.specs.Appending.{Appends};
 
+use arrayvec::ArrayVec;
 use program::action::{Action, Operand};
 use program::field::FieldNo;
 use std::alloc::AllocError;
-use table::entry::{Actions, Entry};
+use table::entry::{Entry, Pattern};
 
 // The entries of a table.
 pub(crate) fn entries(out: &mut Vec<u8>, entries: &[Entry]) -> Result<(), AllocError>
     ensures { Appends out.old.items out.new.items (entries_bytes (entries_of entries.now)) result }
 {
-    for k in 0..entries.len() {
-        entry(out, entries[k])?;
+    for one in entries {
+        entry(out, one)?;
     }
     Ok(())
 }
 
 // The patterns, how many actions there are, and the actions.
-fn entry(out: &mut Vec<u8>, entry: Entry) -> Result<(), AllocError>
-    ensures { Appends out.old.items out.new.items (entry_bytes (entry_of entry)) result }
+fn entry(out: &mut Vec<u8>, entry: &Entry) -> Result<(), AllocError>
+    ensures { Appends out.old.items out.new.items (entry_bytes (entry_of entry.now)) result }
 {
-    patterns(out, entry)?;
-    actions(out, entry.actions)
+    patterns(out, &entry.patterns)?;
+    actions(out, &entry.actions)
 }
 
 // A value and a mask for each field that is looked at.
-fn patterns(out: &mut Vec<u8>, entry: Entry) -> Result<(), AllocError>
-    ensures { Appends out.old.items out.new.items (patterns_bytes (patterns_of (take entry.looked entry.values) (take entry.looked entry.masks))) result }
+fn patterns(out: &mut Vec<u8>, patterns: &[Pattern]) -> Result<(), AllocError>
+    ensures { Appends out.old.items out.new.items (patterns_bytes (patterns_of patterns.now)) result }
 {
-    let values = entry.values;
-    let masks = entry.masks;
-    for k in 0..entry.looked {
-        pattern(out, values[k as usize], masks[k as usize])?;
+    for one in patterns {
+        pattern(out, *one)?;
     }
     Ok(())
 }
 
-fn pattern(out: &mut Vec<u8>, value: u32, mask: u32) -> Result<(), AllocError>
-    ensures { Appends out.old.items out.new.items (word value ++ word mask) result }
+fn pattern(out: &mut Vec<u8>, pattern: Pattern) -> Result<(), AllocError>
+    ensures { Appends out.old.items out.new.items (pattern_bytes (pattern_of pattern)) result }
 {
-    number(out, value)?;
-    number(out, mask)
+    number(out, pattern.value)?;
+    number(out, pattern.mask)
 }
 
 // How many actions there are, and the actions.
-fn actions(out: &mut Vec<u8>, actions: Actions) -> Result<(), AllocError>
-    ensures { Appends out.old.items out.new.items (actions.count ∷ actions_bytes (actions_of (take actions.count actions.of))) result }
+fn actions(out: &mut Vec<u8>, actions: &ArrayVec<Action, 4>) -> Result<(), AllocError>
+    ensures { Appends out.old.items out.new.items (length actions.now.items ∷ actions_bytes (actions_of actions.now.items)) result }
 {
-    bytes(out, &[actions.count])?;
-    let of = actions.of;
-    for k in 0..actions.count {
-        action(out, of[k as usize])?;
+    bytes(out, &[actions.len() as u8])?;
+    for one in actions.as_slice() {
+        action(out, *one)?;
     }
     Ok(())
 }
@@ -86,17 +84,7 @@ fn change(out: &mut Vec<u8>, kind: u8, field: FieldNo, operand: Operand) -> Resu
 fn number(out: &mut Vec<u8>, n: u32) -> Result<(), AllocError>
     ensures { Appends out.old.items out.new.items (word n) result }
 {
-    let high = n / 65536;
-    let low = n % 65536;
-    bytes(
-        out,
-        &[
-            (high / 256) as u8,
-            (high % 256) as u8,
-            (low / 256) as u8,
-            (low % 256) as u8,
-        ],
-    )
+    bytes(out, &n.to_be_bytes())
 }
 
 pub(crate) fn bytes(out: &mut Vec<u8>, more: &[u8]) -> Result<(), AllocError>

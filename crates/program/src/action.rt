@@ -21,3 +21,16 @@ pub enum Action {
     Set(FieldNo, Operand),
     Add(FieldNo, Operand),
 }
+
+// What stands in the unused places of a row of actions.
+impl Default for Action {
+    ghost use Rattle.std.specs.Prelude.{◌≡◌};
+    ghost use Rattle.model.specs.Action.{Set, Number};
+    ghost use Rattle.program.specs.Stands.{action_of};
+
+    ghost is_default = { λ a. action_of a ≡ Set 0 (Number 0) };
+
+    fn default() -> Action {
+        Action::Set(FieldNo { at: 0 }, Operand::Number(0))
+    }
+}

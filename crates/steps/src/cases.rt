@@ -1,5 +1,5 @@
 // The worked cases, run through the code.
-use crate::sample::{always, both, declarations, packet, two_tables};
+use crate::sample::{always, both, declarations, fitting, packet, two_tables};
 use pipeline::answer::Updated;
 use placement::place;
 use play::event::{Event, Outcome};
@@ -12,15 +12,16 @@ use program::statement::{Kind, Statement};
 use std::alloc::{AllocError, Global};
 use std::process::Abort;
 use std::test::Fail;
+use table::entry::Pattern;
 use table::lookup::chosen;
 
-// A node in short: its stage, the table that it looks up or 9 where it looks up none, and where it goes on, at a branch for yes and for no.
-fn told(node: &Node) -> (u16, u8, u16, u16) {
+// A node in short: its stage, the table that it looks up, if it does, and where it goes on, at a branch for yes and for no.
+fn told(node: &Node) -> (u16, Option<u8>, u16, u16) {
     match node.does {
-        Does::Halt => (node.stage, 9, 0, 0),
-        Does::Act { next, .. } => (node.stage, 9, next, 0),
-        Does::Look { table, next } => (node.stage, table.at, next, 0),
-        Does::Ask { passed, failed, .. } => (node.stage, 9, passed, failed),
+        Does::Halt => (node.stage, None, 0, 0),
+        Does::Act { next, .. } => (node.stage, None, next, 0),
+        Does::Look { table, next } => (node.stage, Some(table.at), next, 0),
+        Does::Ask { passed, failed, .. } => (node.stage, None, passed, failed),
     }
 }
 
@@ -28,7 +29,7 @@ fn placed_as(
     rt: &impl Abort,
     heap: Global,
     statements: &[Statement],
-    expected: &[(u16, u8, u16, u16)],
+    expected: &[(u16, Option<u8>, u16, u16)],
 ) -> Result<(), Fail> {
     let Ok(row) = place(heap, statements, 99) else {
         return Err(Fail::new("refused"));
@@ -47,7 +48,7 @@ fn tables_in_a_row(rt: HostRuntime) -> Result<(), Fail> {
         &rt,
         rt.alloc(),
         &two_tables(),
-        &[(0, 0, 1, 0), (1, 1, 2, 0), (0, 9, 0, 0)],
+        &[(0, Some(0), 1, 0), (1, Some(1), 2, 0), (0, None, 0, 0)],
     )
 }
 
@@ -80,12 +81,12 @@ fn table_behind_a_branch(rt: HostRuntime) -> Result<(), Fail> {
         rt.alloc(),
         &statements,
         &[
-            (0, 9, 1, 4),
-            (0, 0, 2, 0),
-            (1, 1, 3, 0),
-            (0, 9, 0, 0),
-            (0, 1, 5, 0),
-            (0, 9, 0, 0),
+            (0, None, 1, 4),
+            (0, Some(0), 2, 0),
+            (1, Some(1), 3, 0),
+            (0, None, 0, 0),
+            (0, Some(1), 5, 0),
+            (0, None, 0, 0),
         ],
     )
 }
@@ -188,11 +189,15 @@ fn first_that_fits(rt: HostRuntime) -> Result<(), Fail> {
         sets: Vec::new(heap),
         lines: 64,
     };
-    let mut high = always(FieldNo { at: 2 }, 0);
-    high.values[0] = 0x10;
-    high.masks[0] = 0xF0;
-    let entries = [high, always(FieldNo { at: 2 }, 0)];
-    assert!(rt; chosen(&table, &entries, &packet(0x1F)) == 0);
-    assert!(rt; chosen(&table, &entries, &packet(0x20)) == 1);
+    let high = Pattern {
+        value: 0x10,
+        mask: 0xF0,
+    };
+    let entries = [
+        fitting(high, FieldNo { at: 2 }, 0),
+        always(FieldNo { at: 2 }, 0),
+    ];
+    assert!(rt; chosen(&table, &entries, &packet(0x1F)) == Some(0));
+    assert!(rt; chosen(&table, &entries, &packet(0x20)) == Some(1));
     Ok(())
 }

@@ -1,11 +1,12 @@
 // A small program and a row of events for it.
+use arrayvec::ArrayVec;
 use play::event::Event;
 use program::action::{Action, Operand};
 use program::declarations::{Declarations, MatchKind, TableDeclaration};
 use program::field::{FieldNo, Fields, TableNo, Width, Widths};
 use program::statement::{Kind, Statement};
 use std::alloc::{AllocError, Global};
-use table::entry::{Actions, Edit, Entry};
+use table::entry::{Edit, Entry, Pattern};
 
 // Fields of 8 bits; two tables that look at field 1, of which the first sets field 2 and the second field 3.
 pub(crate) fn declarations(heap: Global) -> Result<Declarations, AllocError> {
@@ -76,26 +77,27 @@ pub(crate) fn both(heap: Global, x: u32) -> Result<Vec<Edit>, AllocError> {
     let mut edits = Vec::new(heap);
     edits.push(Edit {
         table: TableNo { at: 0 },
-        entries: Vec::from_slice(heap, &[always(FieldNo { at: 2 }, x)])?,
+        entries: vec![in heap; always(FieldNo { at: 2 }, x)]?,
     })?;
     edits.push(Edit {
         table: TableNo { at: 1 },
-        entries: Vec::from_slice(heap, &[always(FieldNo { at: 3 }, x)])?,
+        entries: vec![in heap; always(FieldNo { at: 3 }, x)]?,
     })?;
     Ok(edits)
 }
 
+// An entry that fits every packet, and sets a field.
 pub(crate) fn always(field: FieldNo, x: u32) -> Entry {
-    let action = Action::Set(field, Operand::Number(x));
-    Entry {
-        values: [0; 4],
-        masks: [0; 4],
-        looked: 1,
-        actions: Actions {
-            of: [action; 4],
-            count: 1,
-        },
-    }
+    fitting(Pattern { value: 0, mask: 0 }, field, x)
+}
+
+// An entry that fits where its pattern agrees with the one field that the table looks at, and sets a field.
+pub(crate) fn fitting(pattern: Pattern, field: FieldNo, x: u32) -> Entry {
+    let mut patterns = ArrayVec::new();
+    patterns.push(pattern);
+    let mut actions = ArrayVec::new();
+    actions.push(Action::Set(field, Operand::Number(x)));
+    Entry { patterns, actions }
 }
 
 // A packet whose field 1 says which it is.

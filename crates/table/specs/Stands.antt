@@ -1,10 +1,11 @@
 -- What the entries of the code stand for in the model.
-use Rattle.std.specs.Prelude.{ℕ, Bool, List, [], ◌∷◌, map, take, vec_items, slice_index_or}
+use Rattle.std.specs.Prelude.{Bool, List, [], map, vec_items, slice_index_or}
 use Rattle.model.specs.Action as action
 use Rattle.model.specs.Table as table
 use Rattle.model.specs.Version as version
 use Rattle.program.specs.Stands.{action_of}
 use Rattle.program.specs.declared.action.Action.{Action}
+use Rattle.table.specs.declared.entry.Pattern.{Pattern}
 use Rattle.table.specs.declared.entry.Entry.{Entry}
 use Rattle.table.specs.declared.entry.Edit.{Edit}
 use Rattle.table.specs.declared.rows.Rows.{Rows}
@@ -14,14 +15,14 @@ use Rattle.table.specs.Rows.{rows_of}
 abbrev pub actions_of : List Action → List action.Action
 actions_of xs = map action_of xs
 
--- values and masks, pairwise
-unfoldable pub patterns_of : List ℕ → List ℕ → List table.Pattern
-patterns_of [] ms = []
-patterns_of (v ∷ vs) [] = []
-patterns_of (v ∷ vs) (m ∷ ms) = record { value = v; mask = m } ∷ patterns_of vs ms
+abbrev pub pattern_of : Pattern → table.Pattern
+pattern_of w = record { value = w.value; mask = w.mask }
+
+abbrev pub patterns_of : List Pattern → List table.Pattern
+patterns_of ws = map pattern_of ws
 
 abbrev pub entry_of : Entry → table.Entry
-entry_of e = record { patterns = patterns_of (take e.looked e.values) (take e.looked e.masks); actions = actions_of (take e.actions.count e.actions.of) }
+entry_of e = record { patterns = patterns_of e.patterns.items; actions = actions_of e.actions.items }
 
 abbrev pub entries_of : List Entry → List table.Entry
 entries_of es = map entry_of es

@@ -1,25 +1,20 @@
 // Entries of a table.
-ghost use Rattle.std.specs.Prelude.{◌≤◌};
-
+use arrayvec::ArrayVec;
 use program::action::Action;
 use program::field::TableNo;
 
-// Up to four actions, done in order.
-#[derive(Clone, Copy)]
-pub struct Actions {
-    pub of: [Action; 4],
-    pub count: u8,
-    ghost few: { count ≤ 4 },
+// What an entry wants of one field: its bits under the mask are those of the value.
+#[derive(Clone, Copy, Debug, PartialEq, Eq, Default)]
+pub struct Pattern {
+    pub value: u32,
+    pub mask: u32,
 }
 
-// A value and a mask for each field that the table looks at, in that order, so many of them, and what is done.
-#[derive(Clone, Copy)]
+// A pattern for each field that the table looks at, in that order, and what is done: up to four actions, one after the other.
+#[derive(Drop)]
 pub struct Entry {
-    pub values: [u32; 4],
-    pub masks: [u32; 4],
-    pub looked: u8,
-    pub actions: Actions,
-    ghost few: { looked ≤ 4 },
+    pub patterns: ArrayVec<Pattern, 4>,
+    pub actions: ArrayVec<Action, 4>,
 }
 
 // One edit of an update: all entries of a table are replaced.

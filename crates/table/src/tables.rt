@@ -45,8 +45,8 @@ impl Tables {
     fn forget(&mut self)
         ensures { (v : Bool) → tables_of self.new v ≡ tables_of self.old true }
     {
-        for k in 0..32 {
-            self.all[k].forget();
+        for rows in self.all.iter_mut() {
+            rows.forget();
         }
     }
 

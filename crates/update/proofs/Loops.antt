@@ -1,14 +1,16 @@
 -- One thing more is read in a loop.
-use Rattle.std.proofs.Common.{◌≡◌, ℕ, zero, suc, ◌+◌, ◌-◌, ◌<◌, ◌≤◌, List, [], ◌∷◌, ◌++◌, length, get_or, drop, sym, refl, ap, ◌∙◌, arith}
+use Rattle.std.proofs.Common.{◌≡◌, ℕ, zero, suc, ◌+◌, ◌-◌, ◌<◌, ◌≤◌, List, [], ◌∷◌, ◌++◌, length, get_or, drop, Ok, Err, Result, sym, refl, ap, ◌∙◌, subst, arith}
 use Rattle.model.specs.Declarations.{Declarations, TableDeclaration}
 use Rattle.model.specs.Action.{Action}
 use Rattle.model.specs.Table.{Pattern, Entry}
 use Rattle.model.specs.Version.{Edit}
-use Rattle.update.specs.Decoded.{Then}
+use Rattle.std.specs.Result.{IsErrAnd}
+use Rattle.update.specs.Decoded.{Then, Decoded}
+use Rattle.update.specs.Stands.{Refuses, Gives}
+use Rattle.update.specs.declared.fault.Fault.{Fault}
 use Rattle.std.proofs.lemmas.List.{drop_more, drop_all}
 use Rattle.program.specs.Stands.{numbers_of}
 use Rattle.program.specs.Stands.{FieldNo}
-use Rattle.table.specs.Stands.{patterns_of}
 use Rattle.update.specs.Decoding.{action_at, actions_at, pattern_at, patterns_at, entry_at, entries_at, edit_at, edits_at}
 
 pub actions_more : (d : Declarations) (t : TableDeclaration) (n : ℕ) (done : List Action) (at : ℕ) (bs : List ℕ) (k : Then (List Action)) → 0 < n →
@@ -44,13 +46,6 @@ pub patterns_end : (d : Declarations) (fs : List FieldNo) (i : ℕ) (done : List
 unfolding patterns_at
 patterns_end d fs i done at bs k h = ap (λ (l : List FieldNo). patterns_at d (numbers_of l) done at bs k) (drop_all i fs h)
 
-pub patterns_push : (vs ms : List ℕ) (v m : ℕ) → length vs ≡ length ms → patterns_of (vs ++ (v ∷ [])) (ms ++ (m ∷ [])) ≡ patterns_of vs ms ++ (record { value = v; mask = m } ∷ [])
-unfolding patterns_of
-patterns_push [] [] v m e = refl
-patterns_push [] (y ∷ ms) v m e = absurd (omega arith)
-patterns_push (x ∷ vs) [] v m e = absurd (omega arith)
-patterns_push (x ∷ vs) (y ∷ ms) v m e = ap (λ (l : List Pattern). record { value = x; mask = y } ∷ l) (patterns_push vs ms v m (omega arith))
-
 pub edits_more : (d : Declarations) (tables n : ℕ) (done : List Edit) (at : ℕ) (bs : List ℕ) (k : Then (List Edit)) → 0 < n →
     edits_at d tables n done at bs k ≡ edit_at d tables done at bs (λ g behind rest. edits_at d tables (n - 1) (done ++ (g ∷ [])) behind rest k)
 unfolding edits_at
@@ -62,3 +57,8 @@ edits_more d tables (suc n) done at bs k h =
 pub edits_end : (d : Declarations) (tables n : ℕ) (done : List Edit) (at : ℕ) (bs : List ℕ) (k : Then (List Edit)) → n ≡ 0 → edits_at d tables n done at bs k ≡ k done at bs
 unfolding edits_at
 edits_end d tables n done at bs k e = rw e refl
+
+-- the exit of a `?`: what is refused with is what was refused with
+pub refused_so : {X A : Type 0} (r : Result X Fault) (f : Fault) (s : Then A → Decoded) (of : X → A) (at : ℕ) (rest : List ℕ) → IsErrAnd r (λ e. e ≡ f) → ((k : Then A) → Refuses f (s k)) → Gives s r of at rest
+refused_so (Ok x) f s of at rest e h = absurd e
+refused_so (Err g) f s of at rest e h = λ k. subst (λ (z : Fault). Refuses z (s k)) (sym e) (h k)

@@ -1,11 +1,12 @@
 -- What the code's answers stand for.
-use Rattle.std.specs.Prelude.{◌≡◌, ℕ, Bool, true, false, List, take, Some, None, Ok, Err, vec_items, Option, Result, Vec}
+use Rattle.std.specs.Prelude.{◌≡◌, ℕ, Bool, true, false, List, Some, None, Ok, Err, vec_items, Option, Result, Vec}
 use Rattle.model.specs.Action as action
 use Rattle.program.specs.Stands.{FieldNo}
 use Rattle.model.specs.Table as table
 use Rattle.table.specs.Stands.{actions_of, patterns_of, entries_of, edits_of}
-use Rattle.update.specs.declared.patterns.Patterns.{Patterns}
-use Rattle.table.specs.declared.entry.Actions.{Actions}
+use Rattle.arrayvec.specs.ArrayVec.{ArrayVec}
+use Rattle.program.specs.declared.action.Action.{Action}
+use Rattle.table.specs.declared.entry.Pattern.{Pattern}
 use Rattle.table.specs.declared.entry.Edit.{Edit}
 use Rattle.table.specs.declared.entry.Entry.{Entry}
 use Rattle.model.specs.Version as version
@@ -45,11 +46,11 @@ abbrev pub change_of : Change → ℕ → action.Operand → action.Action
 change_of changes.Set = action.Set
 change_of changes.Add = action.Add
 
-abbrev pub actions_listed : Actions → List action.Action
-actions_listed a = actions_of (take a.count a.of)
+abbrev pub actions_listed : ArrayVec Action → List action.Action
+actions_listed v = actions_of v.items
 
-abbrev pub patterns_listed : Patterns → List table.Pattern
-patterns_listed p = patterns_of (take p.looked p.values) (take p.looked p.masks)
+abbrev pub patterns_listed : ArrayVec Pattern → List table.Pattern
+patterns_listed v = patterns_of v.items
 
 abbrev pub entries_listed : Vec Entry Global → List table.Entry
 entries_listed v = entries_of (vec_items v)

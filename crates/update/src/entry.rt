@@ -1,17 +1,17 @@
 // Entries of a table.
 ghost use Rattle.std.specs.Prelude.{◌≡◌, ℕ, ◌≤◌, List, []};
 ghost use Rattle.program.specs.Stands.{declarations_of, table_of};
-ghost use Rattle.table.specs.Stands.{entry_of, actions_of};
+ghost use Rattle.table.specs.Stands.{pattern_of, entry_of};
 ghost use Rattle.update.specs.Decoding.{fitting_at, pattern_at, patterns_at, entry_at, actions_at};
 ghost use Rattle.update.specs.Stands.{Gives, actions_listed, patterns_listed};
 
 use crate::cursor::Cursor;
 use crate::fault::Fault;
-use crate::patterns::Patterns;
-use program::action::{Action, Operand};
+use arrayvec::ArrayVec;
+use program::action::Action;
 use program::declarations::{Declarations, TableDeclaration};
-use program::field::{FieldNo, Width};
-use table::entry::{Actions, Entry};
+use program::field::Width;
+use table::entry::{Entry, Pattern};
 
 impl Cursor<'_> {
     // A number that fits so many bits.
@@ -32,58 +32,42 @@ impl Cursor<'_> {
         declarations: &Declarations,
         table: &TableDeclaration,
         count: u8,
-    ) -> Result<Actions, Fault>
+    ) -> Result<ArrayVec<Action, 4>, Fault>
         requires { count ≤ 4 }
         ensures { Gives (actions_at (declarations_of declarations.now) (table_of table.now) count [] self.old.at self.old.rest.now) result actions_listed self.new.at self.new.rest.now }
     {
-        let nothing = Action::Set(FieldNo { at: 0 }, Operand::Number(0));
-        let mut of = [nothing; 4];
-        for k in 0..count {
-            match self.action(declarations, table) {
-                Ok(action) => of[k as usize] = action,
-                Err(fault) => return Err(fault),
-            }
+        let mut actions = ArrayVec::new();
+        for _turn in 0..count {
+            actions.push(self.action(declarations, table)?);
         }
-        Ok(Actions { of, count })
+        Ok(actions)
     }
 
-    // A value and a mask for each field that the table looks at.
+    // A pattern for each field that the table looks at.
     fn patterns(
         &mut self,
         declarations: &Declarations,
         table: &TableDeclaration,
-    ) -> Result<Patterns, Fault>
+    ) -> Result<ArrayVec<Pattern, 4>, Fault>
         ensures { Gives (patterns_at (declarations_of declarations.now) (table_of table.now).looks [] self.old.at self.old.rest.now) result patterns_listed self.new.at self.new.rest.now }
     {
-        let looks = table.looks.as_slice();
-        let mut values = [0; 4];
-        let mut masks = [0; 4];
-        for k in 0..looks.len() {
-            if k >= 4 {
+        let mut patterns = ArrayVec::new();
+        for field in &table.looks {
+            if patterns.is_full() {
                 return Err(Fault::NoMemory);
             }
-            match self.pattern(declarations.widths.get(looks[k])) {
-                Ok((value, mask)) => {
-                    values[k] = value;
-                    masks[k] = mask;
-                }
-                Err(fault) => return Err(fault),
-            }
+            patterns.push(self.pattern(declarations.widths.get(*field))?);
         }
-        Ok(Patterns {
-            values,
-            masks,
-            looked: looks.len() as u8,
-        })
+        Ok(patterns)
     }
 
     // A value and a mask that fit so many bits.
-    fn pattern(&mut self, width: Width) -> Result<(u32, u32), Fault>
-        ensures { Gives (pattern_at width.bits self.old.at self.old.rest.now) result (λ x. record { value = x.0; mask = x.1 }) self.new.at self.new.rest.now }
+    fn pattern(&mut self, width: Width) -> Result<Pattern, Fault>
+        ensures { Gives (pattern_at width.bits self.old.at self.old.rest.now) result pattern_of self.new.at self.new.rest.now }
     {
         let value = self.fitting(width)?;
         let mask = self.fitting(width)?;
-        Ok((value, mask))
+        Ok(Pattern { value, mask })
     }
 
     // One entry.
@@ -97,13 +81,6 @@ impl Cursor<'_> {
         let patterns = self.patterns(declarations, table)?;
         let count = self.count()?;
         let actions = self.actions(declarations, table, count)?;
-        let values = patterns.values;
-        let masks = patterns.masks;
-        Ok(Entry {
-            values,
-            masks,
-            looked: patterns.looked,
-            actions,
-        })
+        Ok(Entry { patterns, actions })
     }
 }

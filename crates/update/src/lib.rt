@@ -7,4 +7,3 @@ pub mod decoding;
 mod edits;
 mod entry;
 pub mod fault;
-mod patterns;

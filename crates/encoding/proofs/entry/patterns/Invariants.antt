@@ -4,5 +4,5 @@ use Rattle.encoding.specs.Encoded.{patterns_bytes}
 use Rattle.encoding.proofs.entry.patterns.Given as goal
 
 -- so many of them are written
-abbrev pub invariant-loop-k : goal.invariant-loop-k
-invariant-loop-k l = vec_items l.out ≡ vec_items l.initial.out ++ patterns_bytes (patterns_of (take l.k l.values) (take l.k l.masks))
+abbrev pub invariant-loop-one : goal.invariant-loop-one
+invariant-loop-one l = vec_items l.out ≡ vec_items l.initial.out ++ patterns_bytes (patterns_of (take l.one-index l.patterns))

@@ -14,7 +14,7 @@ returns-in-Some c base =
     let same : c.deref.result.now ≡ vec_items c.args.declarations.now.tables = c.deref.ensures.value in
     let is : c.in-Some.declared.now ≡ get_or c.deref.result.now c.args.table.at c.in-Some.declared.now = c.in-Some.ensures.lookup.1 in
     let within : c.args.table.at < length (vec_items c.args.declarations.now.tables) = rw same at c.in-Some.ensures.lookup.3.0 in
-    c.chosen.ensures base
+    c.chosen.ensures.index base
     ∙ ap (λ (t : declarations.TableDeclaration). chosen t (entries_of c.args.entries.now) (over c.args.fields.now base))
     (ap table_of (rw same at is) ∙ sym (get_or-map table_of ts c.args.table.at c.in-Some.declared.now undeclared within))
 

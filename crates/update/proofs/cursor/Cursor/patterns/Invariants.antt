@@ -1,4 +1,4 @@
-use Rattle.std.proofs.Common.{◌≡◌, ◌≤◌, List, [], length, take, drop}
+use Rattle.std.proofs.Common.{◌≡◌, List, [], vec_items, drop}
 use Rattle.model.specs.Table as table
 use Rattle.program.specs.Stands.{declarations_of, numbers_of}
 use Rattle.table.specs.Stands.{patterns_of}
@@ -7,7 +7,7 @@ use Rattle.update.specs.Decoding.{patterns_at}
 use Rattle.update.proofs.cursor.Cursor.patterns.Given as goal
 
 -- what is left to read, behind what was read, comes to what all comes to
-abbrev pub invariant-loop-k : goal.invariant-loop-k
-invariant-loop-k l = (l.k ≤ 4) × (length l.values ≡ 4) × (length l.masks ≡ 4) × ((then : Then (List table.Pattern)) →
-    patterns_at (declarations_of l.declarations) (numbers_of (drop l.k l.looks)) (patterns_of (take l.k l.values) (take l.k l.masks)) l.self.at l.self.rest.now then
-    ≡ patterns_at (declarations_of l.declarations) (numbers_of l.looks) [] l.initial.self.at l.initial.self.rest.now then)
+abbrev pub invariant-loop-field : goal.invariant-loop-field
+invariant-loop-field l = (then : Then (List table.Pattern)) →
+    patterns_at (declarations_of l.declarations) (numbers_of (drop l.field-index (vec_items l.table.looks))) (patterns_of l.patterns.items) l.self.at l.self.rest.now then
+    ≡ patterns_at (declarations_of l.declarations) (numbers_of (vec_items l.table.looks)) [] l.initial.self.at l.initial.self.rest.now then
