@@ -9,7 +9,7 @@ ghost use Rattle.source.specs.Does.{Does};
 
 use crate::block::{Block, Detour, Fork};
 use crate::fault::Fault;
-use crate::looks::{expect, is_sign, known_table, says, word};
+use crate::looks::{expect, is_sign, says, word};
 use crate::lookup::table;
 use crate::phase::{BodyPhase, FieldPhase, Goal, Phase, Purpose};
 use crate::seen::Seen;
@@ -226,7 +226,7 @@ impl Seen {
         ensures { Does (apply_name key (seen_of self.old) (token_of x.entry)) result self.new }
     {
         let word = word(x)?;
-        let table = known_table(x.at, table(&self.names.tables, word))?;
+        let table = table(&self.names.tables, word).ok_or(Fault::Name { at: x.at })?;
         self.applying(key, x.at, table)
     }
 

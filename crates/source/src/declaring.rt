@@ -29,23 +29,14 @@ impl Names {
     pub fn has_header(&self, word: &[u8]) -> bool
         ensures { result ≡ header_taken (names_of self.now) word.now }
     {
-        match header(&self.headers, word) {
-            Some(_) => true,
-            None => false,
-        }
+        header(&self.headers, word).is_some()
     }
 
     // Whether a name is taken for a field of a header: `out` is.
     pub fn has_field(&self, header: HeaderNo, word: &[u8]) -> bool
         ensures { result ≡ field_taken (names_of self.now) header.at word.now }
     {
-        if is_out(word) {
-            return true;
-        }
-        match field(&self.fields, header, word) {
-            Some(_) => true,
-            None => false,
-        }
+        is_out(word) || field(&self.fields, header, word).is_some()
     }
 
     // The number of one more header.

@@ -25,12 +25,8 @@ fn missing(headers: &[HeaderName], next: Next) -> Option<usize>
     ensures { result ≡ missing_of (headers_of headers.now) (next_of next) }
 {
     match next {
-        Next::Ends => None,
-        Next::Header(_) => None,
-        Next::Later { name, at } => match header(headers, name.word()) {
-            Some(_) => None,
-            None => Some(at),
-        },
+        Next::Ends | Next::Header(_) => None,
+        Next::Later { name, at } => header(headers, name.word()).is_none().then_some(at),
         Next::Never { at } => Some(at),
     }
 }
@@ -39,14 +35,9 @@ fn missing(headers: &[HeaderName], next: Next) -> Option<usize>
 fn unnamed(headers: &[HeaderName], choices: &[Choice]) -> Option<usize>
     ensures { result ≡ unnamed_of (headers_of headers.now) (choices_of choices.now) }
 {
-    for k in 0..choices.len() {
-        let choice = choices[k];
-        match missing(headers, choice.next) {
-            Some(at) => return Some(at),
-            None => {}
-        }
-    }
-    None
+    choices
+        .iter()
+        .find_map(|choice| missing(headers, choice.next))
 }
 
 // The widths of the fields before any is declared: `out` has 8 bits.
@@ -143,10 +134,7 @@ impl Seen {
     fn has_first(&self) -> bool
         ensures { result ≡ is_some (seen_of self.now).routes.first }
     {
-        match self.routes.first {
-            Some(_) => true,
-            None => false,
-        }
+        self.routes.first.is_some()
     }
 
     fn ended(&mut self, at: usize) -> Result<Phase, Fault>

@@ -8,7 +8,7 @@ ghost use Rattle.source.specs.Stands.{names_of, seen_of, choice_of, next_of, in_
 ghost use Rattle.source.specs.Does.{Does};
 
 use crate::fault::Fault;
-use crate::looks::{expect, expect_word, is_sign, known_header, number, says, word};
+use crate::looks::{expect, expect_word, is_sign, number, says, word};
 use crate::lookup::header;
 use crate::name::Name;
 use crate::phase::{FieldPhase, Phase, Purpose, RoutePhase};
@@ -73,7 +73,7 @@ impl Seen {
         ensures { Does (first_name (seen_of self.old) (token_of x.entry)) result self.new }
     {
         let word = word(x)?;
-        let header = known_header(x.at, self.names.header(word))?;
+        let header = self.names.header(word).ok_or(Fault::Name { at: x.at })?;
         self.set_first(header);
         Ok(Phase::InRoute(RoutePhase::FirstEnd))
     }
@@ -82,7 +82,7 @@ impl Seen {
         ensures { Does (after_name (seen_of self.old) (token_of x.entry)) result self.new }
     {
         let word = word(x)?;
-        let header = known_header(x.at, self.names.header(word))?;
+        let header = self.names.header(word).ok_or(Fault::Name { at: x.at })?;
         if self.has_by(header) {
             return Err(Fault::Name { at: x.at });
         }

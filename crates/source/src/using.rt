@@ -9,7 +9,7 @@ ghost use Rattle.source.specs.Does.{Does};
 
 use crate::declaring::is_out;
 use crate::fault::Fault;
-use crate::looks::{expect, is_sign, known_field, known_header, word};
+use crate::looks::{expect, is_sign, word};
 use crate::lookup::{field, only};
 use crate::phase::{BodyPhase, FieldPhase, Goal, Part, Phase, Purpose, RoutePhase};
 use crate::seen::{Names, Seen};
@@ -34,16 +34,7 @@ impl Names {
     fn this_header(&self, header: HeaderNo, word: &[u8]) -> Option<HeaderNo>
         ensures { header_number result ≡ header_for (state.By header.at) (names_of self.now) word.now }
     {
-        match self.header(word) {
-            Some(found) => {
-                if found.at == header.at {
-                    Some(found)
-                } else {
-                    None
-                }
-            }
-            None => None,
-        }
+        self.header(word).filter(|found| found.at == header.at)
     }
 
     // The header that a name stands for: in `by` only the choosing one.
@@ -52,10 +43,7 @@ impl Names {
     {
         match purpose {
             Purpose::By(header) => self.this_header(header, word),
-            Purpose::Listed(_) => self.header(word),
-            Purpose::Target { .. } => self.header(word),
-            Purpose::Tested { .. } => self.header(word),
-            Purpose::Operand(_) => self.header(word),
+            _ => self.header(word),
         }
     }
 
@@ -65,10 +53,7 @@ impl Names {
     {
         match purpose {
             Purpose::By(header) => field(&self.fields, header, word),
-            Purpose::Listed(_) => self.bare(word),
-            Purpose::Target { .. } => self.bare(word),
-            Purpose::Tested { .. } => self.bare(word),
-            Purpose::Operand(_) => self.bare(word),
+            _ => self.bare(word),
         }
     }
 }
@@ -105,10 +90,7 @@ impl Seen {
     {
         match purpose {
             Purpose::Listed(part) => self.has_room(part),
-            Purpose::By(_) => true,
-            Purpose::Target { .. } => true,
-            Purpose::Tested { .. } => true,
-            Purpose::Operand(_) => true,
+            _ => true,
         }
     }
 
@@ -171,13 +153,13 @@ impl Seen {
         ensures { Does (behind_name (purpose_of purpose) (header_number header) (field_number field) at (seen_of self.old) (token_of x.entry)) result self.new }
     {
         if is_sign(x, Sign::Dot) {
-            let header = known_header(at, header)?;
+            let header = header.ok_or(Fault::Name { at })?;
             if !self.has_room_for(purpose) {
                 return Err(Fault::Count { at });
             }
             return Ok(Phase::InField(purpose, FieldPhase::Member(header)));
         }
-        let field = known_field(at, field)?;
+        let field = field.ok_or(Fault::Name { at })?;
         if !self.has_room_for(purpose) {
             return Err(Fault::Count { at });
         }
@@ -188,7 +170,7 @@ impl Seen {
         ensures { Does (member_at (purpose_of purpose) header.at (seen_of self.old) (token_of x.entry)) result self.new }
     {
         let word = word(x)?;
-        let field = known_field(x.at, field(&self.names.fields, header, word))?;
+        let field = field(&self.names.fields, header, word).ok_or(Fault::Name { at: x.at })?;
         Ok(Phase::InField(purpose, FieldPhase::Past(field)))
     }
 
