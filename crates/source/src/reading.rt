@@ -7,7 +7,7 @@ ghost use Rattle.source.specs.Reading.{missing as missing_of, unnamed as unnamed
 ghost use Rattle.source.specs.Stands.{seen_of, next_of, choices_of, goal_of, in_body_of, phase_of};
 ghost use Rattle.source.specs.Does.{Does, Reads};
 
-use crate::block::Block;
+use crate::block::{Block, TableSet};
 use crate::fault::Fault;
 use crate::looks::{expect, is_end, is_number, number, says};
 use crate::lookup::header;
@@ -75,7 +75,7 @@ impl Seen {
             body: Body {
                 rows: Vec::new(heap),
                 blocks: Vec::new(heap),
-                applied: 0,
+                applied: TableSet { bits: 0 },
                 begun: false,
                 end: 0,
             },

@@ -11,7 +11,9 @@ use crate::declaring::is_out;
 use crate::fault::Fault;
 use crate::looks::{expect, is_sign, word};
 use crate::lookup::{field, only};
-use crate::phase::{BodyPhase, FieldPhase, Goal, Part, Phase, Purpose, RoutePhase};
+use crate::phase::{
+    BodyPhase, Choosing, FieldPhase, Goal, Part, Phase, Purpose, Relation, RoutePhase,
+};
 use crate::seen::{Names, Seen};
 use crate::tabling::behind_list;
 use program::action::Operand;
@@ -115,24 +117,24 @@ impl Seen {
             Purpose::By(header) => {
                 expect(x, Sign::Open)?;
                 self.set_by(header, field);
-                Ok(Phase::InRoute(RoutePhase::ChoiceValue { header, count: 0 }))
+                Ok(Phase::InRoute(RoutePhase::ChoiceValue(Choosing { header, count: 0 })))
             }
             Purpose::Listed(part) => self.listed(part, field, x),
-            Purpose::Target { adds, at } => {
+            Purpose::Target { verb, at } => {
                 expect(x, Sign::Is)?;
-                Ok(Phase::InBody(BodyPhase::Value(Goal::Change { adds, field, at })))
+                Ok(Phase::InBody(BodyPhase::Value(Goal::Change { verb, field, at })))
             }
             Purpose::Tested { at } => {
                 if is_sign(x, Sign::Equals) {
                     return Ok(Phase::InBody(BodyPhase::Value(Goal::Ask {
-                        less: false,
+                        relation: Relation::Equals,
                         field,
                         at,
                     })));
                 }
                 expect(x, Sign::Less)?;
                 Ok(Phase::InBody(BodyPhase::Value(Goal::Ask {
-                    less: true,
+                    relation: Relation::Less,
                     field,
                     at,
                 })))
