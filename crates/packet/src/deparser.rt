@@ -7,7 +7,7 @@ ghost use Rattle.packet.specs.Stands.{widths_of, fields_of, present_of, header_o
 use crate::cursor::{Cursor, put};
 use crate::layout::{size, size_of_present};
 use crate::presence::has;
-use program::field::{Fields, Widths};
+use program::field::{FieldNo, Fields, Widths};
 use program::headers::{Header, Headers};
 
 // The place for the bytes is too short for them.
@@ -69,7 +69,7 @@ fn write_header(header: &Header, widths: &Widths, fields: &Fields, out: &mut [u8
             out,
             cursor,
             fields.of[field as usize],
-            widths.bits[field as usize],
+            widths.get(FieldNo { at: field }),
         );
     }
     if cursor.held > 0 {

@@ -6,7 +6,7 @@ ghost use Rattle.packet.specs.Deparsing.{write_headers};
 ghost use Rattle.packet.specs.Stands.{widths_of, header_of, headers_of, present_of};
 
 use crate::presence::has;
-use program::field::Widths;
+use program::field::{FieldNo, Widths};
 use program::headers::{Header, Headers};
 
 // The bytes that a header takes.
@@ -16,7 +16,7 @@ pub fn size(header: &Header, widths: &Widths) -> usize
 {
     let mut bits = 0usize;
     for field in header.from..header.from + header.fields {
-        bits += widths.bits[field as usize] as usize;
+        bits += widths.get(FieldNo { at: field }).bits as usize;
     }
     (bits + 7) / 8
 }

@@ -11,15 +11,15 @@ use crate::choosing::{behind, comes};
 use crate::layout::size;
 use crate::parsed::{Parsed, Refused};
 use crate::presence::with;
-use program::field::{Fields, Widths};
-use program::headers::{Follow, Header, Headers};
+use program::field::{FieldNo, Fields, Widths};
+use program::headers::{Header, HeaderNo, Headers};
 
 // How far a packet has been taken apart: what was read, what comes next, and the first byte that is left.
 #[derive(Clone, Copy)]
 struct Progress {
     fields: Fields,
     present: u8,
-    next: Follow,
+    next: Option<HeaderNo>,
     at: usize,
 }
 
@@ -37,7 +37,7 @@ pub fn parse<'a>(headers: &Headers, widths: &Widths, bytes: &'a [u8]) -> Result<
     let mut progress = Progress {
         fields: Fields { of: [0; 64] },
         present: 0,
-        next: Follow::Header(headers.first),
+        next: Some(headers.first),
         at: 0,
     };
     for number in 0..headers.all.len() {
@@ -91,8 +91,8 @@ fn read_fields(fields: &mut Fields, header: &Header, widths: &Widths, bytes: &[u
 {
     let mut at = 0usize;
     for field in header.from..header.from + header.fields {
-        let width = widths.bits[field as usize];
+        let width = widths.get(FieldNo { at: field });
         fields.of[field as usize] = number_at(bytes, at, width);
-        at += width as usize;
+        at += width.bits as usize;
     }
 }

@@ -34,7 +34,7 @@ fn goes_through(
     payload: usize,
 ) -> Result<Fields, Fail> {
     let headers = headers(heap)?;
-    let widths = widths();
+    let widths = widths()?;
     let Ok(parsed) = parse(&headers, &widths, bytes) else {
         return Err(Fail::new("refused"));
     };
@@ -113,7 +113,7 @@ fn arp(rt: HostRuntime) -> Result<(), Fail> {
 #[test]
 fn refused(rt: HostRuntime) -> Result<(), Fail> {
     let headers = headers(rt.alloc())?;
-    let widths = widths();
+    let widths = widths()?;
     let bytes: &[u8] = TAGGED;
     for length in 0..46usize {
         let Err(refused) = parse(&headers, &widths, &bytes[0..length]) else {

@@ -1,6 +1,7 @@
 // Headers and their fields.
 ghost use Rattle.std.specs.Prelude.{◌≡◌, ◌+◌, ◌≤◌, length, MatchResult};
 ghost use Rattle.token.specs.Stands.{token_of};
+ghost use Rattle.program.specs.Stands.{FieldNo, HeaderNo};
 ghost use Rattle.source.specs.declared.fault.Fault.TheVariants.{Memory};
 ghost use Rattle.source.specs.Names.{header_of, field_of};
 ghost use Rattle.source.specs.Steps.{room as room_at};
@@ -14,7 +15,7 @@ use crate::lookup::{field, header};
 use crate::name::{FieldName, HeaderName};
 use crate::phase::{Filling, HeaderPhase, Phase};
 use crate::seen::{Names, Seen};
-use program::field::FieldNo;
+use program::field::{FieldNo, Width};
 use program::headers::HeaderNo;
 use token::token::{Sign, Token};
 
@@ -81,11 +82,10 @@ impl Seen {
         Ok(())
     }
 
-    pub fn set_width(&mut self, field: FieldNo, bits: u8)
-        requires { bits ≤ 32 }
-        ensures { seen_of self.new ≡ set_width field.at bits (seen_of self.old) }
+    pub fn set_width(&mut self, field: FieldNo, width: Width)
+        ensures { seen_of self.new ≡ set_width field.at width.bits (seen_of self.old) }
     {
-        self.names.widths.bits[field.at as usize] = bits;
+        self.names.widths.set(field, width);
     }
 
     fn header_name(&mut self, x: Token<'_>) -> Result<Phase, Fault>
@@ -129,7 +129,8 @@ impl Seen {
         if width == 0 || width > 32 {
             return Err(Fault::Range { at: x.at });
         }
-        self.set_width(field, width as u8);
+        let width = Width { bits: width as u8 };
+        self.set_width(field, width);
         Ok(Phase::InHeader(HeaderPhase::FieldEnd(filling.with(width))))
     }
 
@@ -161,14 +162,13 @@ impl Filling {
     }
 
     // The header with one more field.
-    fn with(self, width: u32) -> Filling
-        requires { width ≤ 32 }
+    fn with(self, width: Width) -> Filling
         ensures header { result.header ≡ self.header }
-        ensures bits { result.bits ≡ more_bits self.bits width }
+        ensures bits { result.bits ≡ more_bits self.bits width.bits }
     {
         Filling {
             header: self.header,
-            bits: (self.bits as u32 + width).min(257) as u16,
+            bits: self.bits.saturating_add(u16::from(width.bits)).min(257),
         }
     }
 }

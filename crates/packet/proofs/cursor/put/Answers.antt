@@ -7,11 +7,11 @@ use Rattle.packet.proofs.cursor.put.Goals as goal
 
 pub loop-held-init : goal.loop-held-init
 loop-held-init c =
-    let narrow : c.args.width < 64 = omega (arith, c.requires.narrow) in
-    let P : ℕ → Type 0 = λ s. c.args.cursor.waiting * s + c.args.value % s < 2 ^ (c.args.cursor.held + c.args.width) in (
+    let narrow : c.args.width.bits < 64 = omega (arith, c.args.width.narrow) in
+    let P : ℕ → Type 0 = λ s. c.args.cursor.waiting * s + c.args.value % s < 2 ^ (c.args.cursor.held + c.args.width.bits) in (
       refl,
-      subst P (sym (one_shl c.args.width 64 narrow)) (join_below c.args.cursor.waiting c.args.value c.args.cursor.held c.args.width c.requires.small),
-      omega (arith, c.requires.few, c.requires.narrow),
+      subst P (sym (one_shl c.args.width.bits 64 narrow)) (join_below c.args.cursor.waiting c.args.value c.args.cursor.held c.args.width.bits c.requires.small),
+      omega (arith, c.requires.few, c.args.width.narrow),
       refl,
     )
 
@@ -39,13 +39,13 @@ loop-held-preserved c =
 
 pub returns : goal.returns
 returns c =
-    let narrow : c.args.width < 64 = omega (arith, c.requires.narrow) in
+    let narrow : c.args.width.bits < 64 = omega (arith, c.args.width.narrow) in
     let front : List ℕ = bits_of (take c.args.cursor.at c.args.out.now) in
     record {
       bits =
           c.loop-held.invariant.0
-          ∙ ap (λ (s : ℕ). front ++ bits_of_number (c.args.cursor.held + c.args.width) (c.args.cursor.waiting * s + c.args.value % s)) (one_shl c.args.width 64 narrow)
-          ∙ ap (λ (l : List ℕ). front ++ l) (bits_join c.args.cursor.held c.args.width c.args.cursor.waiting c.args.value);
+          ∙ ap (λ (s : ℕ). front ++ bits_of_number (c.args.cursor.held + c.args.width.bits) (c.args.cursor.waiting * s + c.args.value % s)) (one_shl c.args.width.bits 64 narrow)
+          ∙ ap (λ (l : List ℕ). front ++ l) (bits_join c.args.cursor.held c.args.width.bits c.args.cursor.waiting c.args.value);
       few = c.loop-held-test.false;
       small = c.loop-held.invariant.1;
       count = omega (arith, c.loop-held.invariant.3);
