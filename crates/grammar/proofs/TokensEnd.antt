@@ -2,8 +2,7 @@
 use Rattle.std.proofs.Common.{◌≡◌, ℕ, zero, suc, ◌+◌, ◌-◌, ◌^◌, Bool, true, false, cond, ◌&&◌, eqb, ltb, List, [], ◌∷◌, take, Some, None, Option, refl}
 use Rattle.token.specs.declared.token.Sign.{Sign}
 use Rattle.token.specs.declared.token.Sign.TheVariants.{Equals}
-use Rattle.token.specs.declared.token.Stretch.TheVariants.{Run}
-use Rattle.token.specs.Tokens.{Kind, Number, Huge, Mark, Token, token, is_alphanumeric, front, begins, gap, decimal, hexadecimal, number, run_kind, single, mark, Lead, lead, tokens_behind}
+use Rattle.token.specs.Tokens.{Run, Kind, Number, Huge, Mark, Token, token, is_alphanumeric, front, begins, gap, decimal, hexadecimal, number, run_kind, single, mark, Lead, lead, tokens_behind}
 use Rattle.source.specs.Steps.{is_end}
 use Rattle.grammar.specs.Laws.{Ended, last, more, TokensEnd}
 

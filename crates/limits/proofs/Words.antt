@@ -3,8 +3,7 @@ use Rattle.std.proofs.Common.{◌≡◌, ℕ, zero, suc, ◌+◌, ◌-◌, ◌^�
 use Rattle.std.specs.List.{AllByRecursion}
 use Rattle.token.specs.declared.token.Sign.{Sign}
 use Rattle.token.specs.declared.token.Sign.TheVariants.{Equals}
-use Rattle.token.specs.declared.token.Stretch.TheVariants.{Run}
-use Rattle.token.specs.Tokens.{Kind, Word, Number, Huge, Mark, Token, is_alphanumeric, front, begins, gap, decimal, hexadecimal, number, run_kind, single, mark, Lead, lead, tokens_behind}
+use Rattle.token.specs.Tokens.{Run, Kind, Word, Number, Huge, Mark, Token, is_alphanumeric, front, begins, gap, decimal, hexadecimal, number, run_kind, single, mark, Lead, lead, tokens_behind}
 use Rattle.source.specs.Steps.{word_of}
 
 pub record Proper (x : Token) : Type 0 where

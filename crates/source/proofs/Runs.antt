@@ -1,6 +1,6 @@
 -- The steps of the loops over choices and over tokens.
-use Rattle.std.proofs.Common.{◌≡◌, ℕ, zero, suc, ◌+◌, ◌<◌, ◌≤◌, Bool, true, false, cond, List, ◌∷◌, map, length, get_or, drop, replicate, is_some, Some, None, Option, sym, refl, ap, ◌∙◌, arith}
-use Rattle.std.proofs.lemmas.List.{drop_more, drop_all, get_or-map}
+use Rattle.std.proofs.Common.{[], MatchOption, ◌≡◌, ℕ, zero, suc, ◌<◌, ◌≤◌, Bool, true, false, cond, List, ◌∷◌, map, length, get_or, replicate, is_some, Some, None, Option, sym, refl, ap, ◌∙◌, arith}
+use Rattle.std.proofs.lemmas.List.{get_or-map}
 use Rattle.std.proofs.lemmas.Bool.{false≢true}
 use Rattle.program.specs.Stands.{FieldNo}
 use Rattle.token.specs.Tokens.{Kind, Word, Number, Huge, Mark, Other, End, Token, behind}
@@ -12,22 +12,31 @@ use Rattle.source.specs.Steps.{Step, go, stop, is_end}
 use Rattle.source.specs.Reading.{missing, or_else, unnamed, step, taken, refused, onward, run}
 use Rattle.source.specs.Stands.{choice_of}
 
-unnamed_at : (hs : List Entry) (cs : List Choice) (k : ℕ) (c : Choice) → k < length cs → c ≡ get_or cs k c →
-    unnamed hs (map choice_of (drop k cs)) ≡ or_else (missing hs (choice_of c).next) (unnamed hs (map choice_of (drop (k + 1) cs)))
+-- up to an index, no choice misses its header
+abbrev pub NoneBelow : List Entry → List Choice → ℕ → Type 0
+NoneBelow hs cs n = (k : ℕ) (d : Choice) → k < n → missing hs (choice_of (get_or cs k d)).next ≡ None
+
+-- the first choice that misses its header, and its offset
+abbrev pub FirstAt : List Entry → List Choice → ℕ → Type 0
+FirstAt hs cs at = (i : ℕ) × ((i < length cs) × (((d : Choice) → missing hs (choice_of (get_or cs i d)).next ≡ Some at) × NoneBelow hs cs i))
+
+unnamed_none : (hs : List Entry) (cs : List Choice) → NoneBelow hs cs (length cs) → unnamed hs (map choice_of cs) ≡ None
 unfolding unnamed
-unnamed_at hs cs k c h e = rw (drop_more cs k c h, ← e) refl
+unnamed_none hs [] h = refl
+unnamed_none hs (c ∷ cs) h =
+    ap (λ (o : Option ℕ). or_else o (unnamed hs (map choice_of cs))) (h 0 c (omega arith)) ∙ unnamed_none hs cs (λ k d l. h (suc k) d (omega (arith, l)))
 
-pub unnamed_more : (hs : List Entry) (cs : List Choice) (k : ℕ) (c : Choice) → k < length cs → c ≡ get_or cs k c → None ≡ missing hs (choice_of c).next →
-    unnamed hs (map choice_of (drop (k + 1) cs)) ≡ unnamed hs (map choice_of (drop k cs))
-unnamed_more hs cs k c h e m = sym (unnamed_at hs cs k c h e ∙ ap (λ (o : Option ℕ). or_else o (unnamed hs (map choice_of (drop (k + 1) cs)))) (sym m))
-
-pub unnamed_here : (hs : List Entry) (cs : List Choice) (k : ℕ) (c : Choice) (at : ℕ) → k < length cs → c ≡ get_or cs k c → Some at ≡ missing hs (choice_of c).next →
-    unnamed hs (map choice_of (drop k cs)) ≡ Some at
-unnamed_here hs cs k c at h e m = unnamed_at hs cs k c h e ∙ ap (λ (o : Option ℕ). or_else o (unnamed hs (map choice_of (drop (k + 1) cs)))) (sym m)
-
-pub unnamed_end : (hs : List Entry) (cs : List Choice) (k : ℕ) → length cs ≤ k → unnamed hs (map choice_of (drop k cs)) ≡ None
+unnamed_some : (hs : List Entry) (cs : List Choice) (at i : ℕ) → i < length cs → ((d : Choice) → missing hs (choice_of (get_or cs i d)).next ≡ Some at) → NoneBelow hs cs i →
+    unnamed hs (map choice_of cs) ≡ Some at
 unfolding unnamed
-unnamed_end hs cs k h = rw (drop_all k cs h) refl
+unnamed_some hs [] at i l e h = absurd (omega arith)
+unnamed_some hs (c ∷ cs) at zero l e h = ap (λ (o : Option ℕ). or_else o (unnamed hs (map choice_of cs))) (e c)
+unnamed_some hs (c ∷ cs) at (suc i) l e h =
+    ap (λ (o : Option ℕ). or_else o (unnamed hs (map choice_of cs))) (h 0 c (omega arith)) ∙ unnamed_some hs cs at i (omega arith) e (λ k d m. h (suc k) d (omega (arith, m)))
+
+pub unnamed_first : (hs : List Entry) (cs : List Choice) (r : Option ℕ) → MatchOption r (NoneBelow hs cs (length cs)) (FirstAt hs cs) → r ≡ unnamed hs (map choice_of cs)
+unnamed_first hs cs None h = sym (unnamed_none hs cs h)
+unnamed_first hs cs (Some at) h = sym (unnamed_some hs cs at h.0 h.1.0 h.1.1.0 h.1.1.1)
 
 some_number : (o : Option FieldNo) → is_some o ≡ is_some (field_number o)
 some_number (Some f) = refl

@@ -1,5 +1,5 @@
 -- What the code's values stand for.
-use Rattle.std.specs.Prelude.{List, map, reverse, Some, None, vec_items, Option}
+use Rattle.std.specs.Prelude.{Bool, true, false, List, map, reverse, Some, None, vec_items, Option}
 use Rattle.program.specs.Stands.{operand_of, test_of, action_of, bits_of, numbers_of}
 use Rattle.program.specs.Stands as program
 use Rattle.model.specs.Declarations as declarations
@@ -19,6 +19,10 @@ use Rattle.source.specs.declared.seen.Routes.{Routes}
 use Rattle.source.specs.declared.seen.Tables.{Tables}
 use Rattle.source.specs.declared.seen.Body.{Body}
 use Rattle.source.specs.declared.seen.Seen.{Seen}
+use Rattle.source.specs.declared.phase.Verb.{Verb}
+use Rattle.source.specs.declared.phase.Verb.TheVariants as verb
+use Rattle.source.specs.declared.phase.Relation.{Relation}
+use Rattle.source.specs.declared.phase.Relation.TheVariants as relation
 use Rattle.source.specs.declared.phase.Goal.{Goal}
 use Rattle.source.specs.declared.phase.Goal.TheVariants as goal
 use Rattle.source.specs.declared.phase.Part.{Part}
@@ -65,10 +69,10 @@ abbrev pub rows_of : List Statement → List state.Row
 rows_of ss = map row_of ss
 
 abbrev pub fork_of : Fork → state.Fork
-fork_of f = record { index = f.index; offset = f.offset; test = test_of f.test; before = f.before }
+fork_of f = record { index = f.index; offset = f.offset; test = test_of f.test; before = f.before.bits }
 
 abbrev pub detour_of : Detour → state.Detour
-detour_of t = record { index = t.index; offset = t.offset; applied = t.applied }
+detour_of t = record { index = t.index; offset = t.offset; applied = t.applied.bits }
 
 abbrev pub block_of : Block → state.Block
 block_of block.Do = state.Do
@@ -112,7 +116,7 @@ abbrev pub body_of : Body → state.Body
 body_of b = record {
   rows = rows_of (vec_items b.rows);
   blocks = blocks_of (vec_items b.blocks);
-  applied = b.applied;
+  applied = b.applied.bits;
   begun = b.begun;
   end = b.end;
 }
@@ -120,9 +124,17 @@ body_of b = record {
 abbrev pub seen_of : Seen → state.Seen
 seen_of d = record { names = names_of d.names; routes = routes_of d.routes; tables = table_state_of d.tables; body = body_of d.body }
 
+abbrev pub adds_of : Verb → Bool
+adds_of verb.Set = false
+adds_of verb.Add = true
+
+abbrev pub less_of : Relation → Bool
+less_of relation.Equals = false
+less_of relation.Less = true
+
 abbrev pub goal_of : Goal → state.Goal
-goal_of (goal.Change adds f at) = state.Change adds f.at at
-goal_of (goal.Ask less f at) = state.Ask less f.at at
+goal_of (goal.Change v f at) = state.Change (adds_of v) f.at at
+goal_of (goal.Ask r f at) = state.Ask (less_of r) f.at at
 
 abbrev pub part_of : Part → state.Part
 part_of part.Looks = state.Looks
@@ -131,26 +143,26 @@ part_of part.Sets = state.Sets
 abbrev pub purpose_of : Purpose → state.Purpose
 purpose_of (purpose.By h) = state.By h.at
 purpose_of (purpose.Listed p) = state.Listed (part_of p)
-purpose_of (purpose.Target adds at) = state.Target adds at
+purpose_of (purpose.Target v at) = state.Target (adds_of v) at
 purpose_of (purpose.Tested at) = state.Tested at
 purpose_of (purpose.Operand g) = state.Operates (goal_of g)
 
 abbrev pub in_header_of : HeaderPhase → state.HeaderPhase
 in_header_of inheader.HeaderName = state.HeaderName
 in_header_of (inheader.HeaderOpen h) = state.HeaderOpen h.at
-in_header_of (inheader.FieldName h bits) = state.FieldName h.at bits
-in_header_of (inheader.FieldWidth h f bits) = state.FieldWidth h.at f.at bits
-in_header_of (inheader.FieldEnd h bits) = state.FieldEnd h.at bits
+in_header_of (inheader.FieldName h) = state.FieldName h.header.at h.bits
+in_header_of (inheader.FieldWidth h f) = state.FieldWidth h.header.at f.at h.bits
+in_header_of (inheader.FieldEnd h) = state.FieldEnd h.header.at h.bits
 
 abbrev pub in_route_of : RoutePhase → state.RoutePhase
 in_route_of inroute.FirstName = state.FirstName
 in_route_of inroute.FirstEnd = state.FirstEnd
 in_route_of inroute.AfterName = state.AfterName
 in_route_of (inroute.AfterBy h) = state.AfterBy h.at
-in_route_of (inroute.ChoiceValue h n) = state.ChoiceValue h.at n
-in_route_of (inroute.ChoiceColon h n v) = state.ChoiceColon h.at n v
-in_route_of (inroute.ChoiceNext h n v) = state.ChoiceNext h.at n v
-in_route_of (inroute.ChoiceEnd h n) = state.ChoiceEnd h.at n
+in_route_of (inroute.ChoiceValue c) = state.ChoiceValue c.header.at c.count
+in_route_of (inroute.ChoiceColon c v) = state.ChoiceColon c.header.at c.count v
+in_route_of (inroute.ChoiceNext c v) = state.ChoiceNext c.header.at c.count v
+in_route_of (inroute.ChoiceEnd c) = state.ChoiceEnd c.header.at c.count
 
 abbrev pub in_table_of : TablePhase → state.TablePhase
 in_table_of intable.TableName = state.TableName

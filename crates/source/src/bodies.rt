@@ -3,62 +3,47 @@ ghost use Rattle.std.specs.Prelude.{◌≡◌, ◌∷◌, length, MatchResult};
 ghost use Rattle.token.specs.Stands.{token_of};
 ghost use Rattle.program.specs.Stands.{operand_of, action_of, test_of};
 ghost use Rattle.source.specs.declared.fault.Fault.TheVariants.{Memory};
-ghost use Rattle.source.specs.Bodies.{holds as holds_of, insert as insert_of, add_row, put_row, set_blocks, set_applied, begin as begin_at, opened as opened_at, innermost, others, behind_row, closing as closing_at, closed as closed_at, statement as statement_at, applying as applying_at, apply_name, change as change_of, ask as ask_of, settle as settle_at, behind_yes as behind_yes_at};
-ghost use Rattle.source.specs.Stands.{seen_of, row_of, block_of, blocks_of, fork_of, detour_of, goal_of, some_block_of};
+ghost use Rattle.source.specs.Bodies.{add_row, put_row, set_blocks, set_applied, begin as begin_at, opened as opened_at, innermost, others, behind_row, closing as closing_at, closed as closed_at, statement as statement_at, applying as applying_at, apply_name, change as change_of, ask as ask_of, settle as settle_at, behind_yes as behind_yes_at};
+ghost use Rattle.source.specs.Stands.{adds_of, less_of, seen_of, row_of, block_of, blocks_of, fork_of, detour_of, goal_of, some_block_of};
 ghost use Rattle.source.specs.Does.{Does};
 
-use crate::block::{Block, Detour, Fork};
+use crate::block::{Block, Detour, Fork, TableSet};
 use crate::fault::Fault;
-use crate::looks::{expect, is_sign, known_table, says, word};
+use crate::looks::{expect, is_sign, says, word};
 use crate::lookup::table;
-use crate::phase::{BodyPhase, FieldPhase, Goal, Phase, Purpose};
+use crate::phase::{BodyPhase, FieldPhase, Goal, Phase, Purpose, Relation, Verb};
 use crate::seen::Seen;
 use program::action::{Action, Operand, Test};
 use program::field::{FieldNo, TableNo};
 use program::statement::{Kind, Statement};
 use token::token::{Sign, Token};
 
-// Whether a table is in a set of tables, which is the bits of a number.
-fn holds(tables: u32, table: TableNo) -> bool
-    ensures { result ≡ holds_of tables table.at }
-{
-    tables & (1 << table.at) != 0
-}
-
-fn insert(tables: u32, table: TableNo) -> u32
-    ensures { result ≡ insert_of tables table.at }
-{
-    tables | (1 << table.at)
-}
-
 // A number of 32 bits, as rows hold them.
 fn small(n: usize) -> Result<u32, Fault>
     ensures { MatchResult result (λ m. m ≡ n) (λ f. f ≡ Memory) }
 {
-    if n < 1 << 32 {
-        Ok(n as u32)
-    } else {
-        Err(Fault::Memory)
+    u32::try_from(n).map_err(|_| Fault::Memory)
+}
+
+impl Verb {
+    fn action(self, field: FieldNo, operand: Operand) -> Action
+        ensures { action_of result ≡ change_of (adds_of self) field.at (operand_of operand) }
+    {
+        match self {
+            Verb::Set => Action::Set(field, operand),
+            Verb::Add => Action::Add(field, operand),
+        }
     }
 }
 
-fn change(adds: bool, field: FieldNo, operand: Operand) -> Action
-    ensures { action_of result ≡ change_of adds field.at (operand_of operand) }
-{
-    if adds {
-        Action::Add(field, operand)
-    } else {
-        Action::Set(field, operand)
-    }
-}
-
-fn ask(less: bool, field: FieldNo, operand: Operand) -> Test
-    ensures { test_of result ≡ ask_of less field.at (operand_of operand) }
-{
-    if less {
-        Test::Less(field, operand)
-    } else {
-        Test::Equals(field, operand)
+impl Relation {
+    fn test(self, field: FieldNo, operand: Operand) -> Test
+        ensures { test_of result ≡ ask_of (less_of self) field.at (operand_of operand) }
+    {
+        match self {
+            Relation::Equals => Test::Equals(field, operand),
+            Relation::Less => Test::Less(field, operand),
+        }
     }
 }
 
@@ -78,8 +63,8 @@ impl Seen {
         }
     }
 
-    fn set_applied(&mut self, tables: u32)
-        ensures { seen_of self.new ≡ set_applied tables (seen_of self.old) }
+    fn set_applied(&mut self, tables: TableSet)
+        ensures { seen_of self.new ≡ set_applied tables.bits (seen_of self.old) }
     {
         self.body.applied = tables;
     }
@@ -108,6 +93,13 @@ impl Seen {
         ensures { result ≡ length (seen_of self.now).body.rows }
     {
         self.body.rows.len()
+    }
+
+    // How many statements stand behind the one at an index.
+    fn behind_row(&self, index: usize) -> usize
+        ensures { result ≡ behind_row index (seen_of self.now) }
+    {
+        self.count_rows().saturating_sub(index).saturating_sub(1)
     }
 
     fn depth(&self) -> usize
@@ -140,37 +132,14 @@ impl Seen {
                 Ok(Phase::Item)
             }
             Block::Yes(fork) => {
-                let past = small(
-                    self.count_rows()
-                        .saturating_sub(fork.index)
-                        .saturating_sub(1),
-                )?;
-                self.put_row(
-                    fork.index,
-                    Statement {
-                        offset: fork.offset,
-                        kind: Kind::If {
-                            test: fork.test,
-                            past,
-                        },
-                    },
-                );
+                let past = small(self.behind_row(fork.index))?;
+                self.put_row(fork.index, fork.row(past));
                 Ok(Phase::InBody(BodyPhase::BehindYes(fork)))
             }
             Block::No(detour) => {
-                let past = small(
-                    self.count_rows()
-                        .saturating_sub(detour.index)
-                        .saturating_sub(1),
-                )?;
-                self.put_row(
-                    detour.index,
-                    Statement {
-                        offset: detour.offset,
-                        kind: Kind::Skip { past },
-                    },
-                );
-                self.set_applied(detour.applied | self.body.applied);
+                let past = small(self.behind_row(detour.index))?;
+                self.put_row(detour.index, detour.row(past));
+                self.set_applied(detour.applied.union(self.body.applied));
                 Ok(Phase::InBody(BodyPhase::Statement))
             }
         }
@@ -191,10 +160,22 @@ impl Seen {
             return self.closed(at);
         }
         if says(x, b"set") {
-            return Ok(Phase::InField(Purpose::Target { adds: false, at }, FieldPhase::Named));
+            return Ok(Phase::InField(
+                Purpose::Target {
+                    verb: Verb::Set,
+                    at,
+                },
+                FieldPhase::Named,
+            ));
         }
         if says(x, b"add") {
-            return Ok(Phase::InField(Purpose::Target { adds: true, at }, FieldPhase::Named));
+            return Ok(Phase::InField(
+                Purpose::Target {
+                    verb: Verb::Add,
+                    at,
+                },
+                FieldPhase::Named,
+            ));
         }
         if says(x, b"apply") {
             return Ok(Phase::InBody(BodyPhase::ApplyName { at }));
@@ -209,10 +190,10 @@ impl Seen {
     fn applying(&mut self, key: usize, at: usize, table: TableNo) -> Result<Phase, Fault>
         ensures { Does (applying_at key at table.at (seen_of self.old)) result self.new }
     {
-        if holds(self.body.applied, table) {
+        if self.body.applied.holds(table) {
             return Err(Fault::Twice { at });
         }
-        let applied = insert(self.body.applied, table);
+        let applied = self.body.applied.with(table);
         let offset = small(key)?;
         self.add_row(Statement {
             offset,
@@ -226,7 +207,7 @@ impl Seen {
         ensures { Does (apply_name key (seen_of self.old) (token_of x.entry)) result self.new }
     {
         let word = word(x)?;
-        let table = known_table(x.at, table(&self.names.tables, word))?;
+        let table = table(&self.names.tables, word).ok_or(Fault::Name { at: x.at })?;
         self.applying(key, x.at, table)
     }
 
@@ -235,29 +216,29 @@ impl Seen {
         ensures { Does (settle_at (goal_of goal) (operand_of operand) (seen_of self.old) (token_of x.entry)) result self.new }
     {
         match goal {
-            Goal::Change { adds, field, at } => {
+            Goal::Change { verb, field, at } => {
                 expect(x, Sign::Semicolon)?;
                 let offset = small(at)?;
                 self.add_row(Statement {
                     offset,
-                    kind: Kind::Act(change(adds, field, operand)),
+                    kind: Kind::Act(verb.action(field, operand)),
                 })?;
                 Ok(Phase::InBody(BodyPhase::Statement))
             }
-            Goal::Ask { less, field, at } => {
+            Goal::Ask {
+                relation,
+                field,
+                at,
+            } => {
                 expect(x, Sign::Open)?;
                 let offset = small(at)?;
-                let test = ask(less, field, operand);
                 let fork = Fork {
                     index: self.count_rows(),
                     offset,
-                    test,
+                    test: relation.test(field, operand),
                     before: self.body.applied,
                 };
-                self.add_row(Statement {
-                    offset,
-                    kind: Kind::If { test, past: 0 },
-                })?;
+                self.add_row(fork.row(0))?;
                 self.opened(Block::Yes(fork), x.at)
             }
         }
@@ -277,20 +258,8 @@ impl Seen {
             offset,
             applied: self.body.applied,
         };
-        self.put_row(
-            fork.index,
-            Statement {
-                offset: fork.offset,
-                kind: Kind::If {
-                    test: fork.test,
-                    past,
-                },
-            },
-        );
-        self.add_row(Statement {
-            offset,
-            kind: Kind::Skip { past: 0 },
-        })?;
+        self.put_row(fork.index, fork.row(past));
+        self.add_row(detour.row(0))?;
         self.set_applied(fork.before);
         Ok(Phase::InBody(BodyPhase::ElseOpen(detour)))
     }

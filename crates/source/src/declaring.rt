@@ -13,7 +13,7 @@ use crate::fault::Fault;
 use crate::looks::{expect, fresh, is_sign, number, word};
 use crate::lookup::{field, header};
 use crate::name::{FieldName, HeaderName};
-use crate::phase::{HeaderPhase, Phase};
+use crate::phase::{Filling, HeaderPhase, Phase};
 use crate::seen::{Names, Seen};
 use program::field::{FieldNo, Width};
 use program::headers::HeaderNo;
@@ -30,23 +30,14 @@ impl Names {
     pub fn has_header(&self, word: &[u8]) -> bool
         ensures { result ≡ header_taken (names_of self.now) word.now }
     {
-        match header(&self.headers, word) {
-            Some(_) => true,
-            None => false,
-        }
+        header(&self.headers, word).is_some()
     }
 
     // Whether a name is taken for a field of a header: `out` is.
     pub fn has_field(&self, header: HeaderNo, word: &[u8]) -> bool
         ensures { result ≡ field_taken (names_of self.now) header.at word.now }
     {
-        if is_out(word) {
-            return true;
-        }
-        match field(&self.fields, header, word) {
-            Some(_) => true,
-            None => false,
-        }
+        is_out(word) || field(&self.fields, header, word).is_some()
     }
 
     // The number of one more header.
@@ -108,45 +99,39 @@ impl Seen {
     }
 
     // A field, or the end of the header.
-    fn field_name(&mut self, header: HeaderNo, bits: u16, x: Token<'_>) -> Result<Phase, Fault>
-        ensures { Does (field_name header.at bits (seen_of self.old) (token_of x.entry)) result self.new }
+    fn field_name(&mut self, filling: Filling, x: Token<'_>) -> Result<Phase, Fault>
+        ensures { Does (field_name filling.header.at filling.bits (seen_of self.old) (token_of x.entry)) result self.new }
     {
         if is_sign(x, Sign::Close) {
-            return if whole_bytes(bits) {
+            return if filling.is_whole() {
                 Ok(Phase::Item)
             } else {
                 Err(Fault::Header { at: x.at })
             };
         }
         let word = word(x)?;
+        let header = filling.header;
         let name = fresh(self.names.has_field(header, word), x.at, word)?;
         let no = self.names.next_field(x.at)?;
         self.add_field(FieldName { name, header, no })?;
-        Ok(Phase::InHeader(HeaderPhase::FieldWidth {
-            header,
-            field: no,
-            bits,
-        }))
+        Ok(Phase::InHeader(HeaderPhase::FieldWidth(filling, no)))
     }
 
     fn field_width(
         &mut self,
-        header: HeaderNo,
+        filling: Filling,
         field: FieldNo,
-        bits: u16,
         x: Token<'_>,
     ) -> Result<Phase, Fault>
-        ensures { Does (field_width header.at field.at bits (seen_of self.old) (token_of x.entry)) result self.new }
+        ensures { Does (field_width filling.header.at field.at filling.bits (seen_of self.old) (token_of x.entry)) result self.new }
     {
         let width = number(x)?;
         if width == 0 || width > 32 {
             return Err(Fault::Range { at: x.at });
         }
-        self.set_width(field, Width { bits: width as u8 });
-        Ok(Phase::InHeader(HeaderPhase::FieldEnd {
-            header,
-            bits: more_bits(bits, width),
-        }))
+        let width = Width { bits: width as u8 };
+        self.set_width(field, width);
+        Ok(Phase::InHeader(HeaderPhase::FieldEnd(filling.with(width))))
     }
 
     pub fn in_header(&mut self, phase: HeaderPhase, x: Token<'_>) -> Result<Phase, Fault>
@@ -156,33 +141,34 @@ impl Seen {
             HeaderPhase::HeaderName => self.header_name(x),
             HeaderPhase::HeaderOpen(header) => {
                 expect(x, Sign::Open)?;
-                Ok(Phase::InHeader(HeaderPhase::FieldName { header, bits: 0 }))
+                Ok(Phase::InHeader(HeaderPhase::FieldName(Filling { header, bits: 0 })))
             }
-            HeaderPhase::FieldName { header, bits } => self.field_name(header, bits, x),
-            HeaderPhase::FieldWidth {
-                header,
-                field,
-                bits,
-            } => self.field_width(header, field, bits, x),
-            HeaderPhase::FieldEnd { header, bits } => {
+            HeaderPhase::FieldName(filling) => self.field_name(filling, x),
+            HeaderPhase::FieldWidth(filling, field) => self.field_width(filling, field, x),
+            HeaderPhase::FieldEnd(filling) => {
                 expect(x, Sign::Semicolon)?;
-                Ok(Phase::InHeader(HeaderPhase::FieldName { header, bits }))
+                Ok(Phase::InHeader(HeaderPhase::FieldName(filling)))
             }
         }
     }
 }
 
-// Whether a header of so many bits has 1 to 32 whole bytes.
-fn whole_bytes(bits: u16) -> bool
-    ensures { result ≡ whole_bytes bits }
-{
-    bits > 0 && bits <= 256 && bits % 8 == 0
-}
+impl Filling {
+    // Whether the header has 1 to 32 whole bytes.
+    fn is_whole(self) -> bool
+        ensures { result ≡ whole_bytes self.bits }
+    {
+        self.bits > 0 && self.bits <= 256 && self.bits % 8 == 0
+    }
 
-// The bits of a header with one more field: 257 stands for all that are too many.
-fn more_bits(bits: u16, width: u32) -> u16
-    requires { width ≤ 32 }
-    ensures { result ≡ more_bits bits width }
-{
-    (bits as u32 + width).min(257) as u16
+    // The header with one more field.
+    fn with(self, width: Width) -> Filling
+        ensures header { result.header ≡ self.header }
+        ensures bits { result.bits ≡ more_bits self.bits width.bits }
+    {
+        Filling {
+            header: self.header,
+            bits: self.bits.saturating_add(u16::from(width.bits)).min(257),
+        }
+    }
 }

@@ -4,16 +4,30 @@ use program::action::Operand;
 use program::field::FieldNo;
 use program::headers::HeaderNo;
 
+// What a change does to its field.
+#[derive(Clone, Copy, Debug, PartialEq, Eq)]
+pub enum Verb {
+    Set,
+    Add,
+}
+
+// How a test compares its field.
+#[derive(Clone, Copy, Debug, PartialEq, Eq)]
+pub enum Relation {
+    Equals,
+    Less,
+}
+
 // What an operand is read for: to set or add to a field, or to compare one; with the offset of the keyword.
 #[derive(Clone, Copy)]
 pub enum Goal {
     Change {
-        adds: bool,
+        verb: Verb,
         field: FieldNo,
         at: usize,
     },
     Ask {
-        less: bool,
+        relation: Relation,
         field: FieldNo,
         at: usize,
     },
@@ -31,28 +45,32 @@ pub enum Part {
 pub enum Purpose {
     By(HeaderNo),
     Listed(Part),
-    Target { adds: bool, at: usize },
+    Target { verb: Verb, at: usize },
     Tested { at: usize },
     Operand(Goal),
+}
+
+// A header whose fields are being read, and their bits so far: 257 stands for all that are too many.
+#[derive(Clone, Copy)]
+pub struct Filling {
+    pub header: HeaderNo,
+    pub bits: u16,
 }
 
 #[derive(Clone, Copy)]
 pub enum HeaderPhase {
     HeaderName,
     HeaderOpen(HeaderNo),
-    FieldName {
-        header: HeaderNo,
-        bits: u16,
-    },
-    FieldWidth {
-        header: HeaderNo,
-        field: FieldNo,
-        bits: u16,
-    },
-    FieldEnd {
-        header: HeaderNo,
-        bits: u16,
-    },
+    FieldName(Filling),
+    FieldWidth(Filling, FieldNo),
+    FieldEnd(Filling),
+}
+
+// A header whose choices are being read, and how many it has so far.
+#[derive(Clone, Copy)]
+pub struct Choosing {
+    pub header: HeaderNo,
+    pub count: u8,
 }
 
 #[derive(Clone, Copy)]
@@ -61,24 +79,10 @@ pub enum RoutePhase {
     FirstEnd,
     AfterName,
     AfterBy(HeaderNo),
-    ChoiceValue {
-        header: HeaderNo,
-        count: u8,
-    },
-    ChoiceColon {
-        header: HeaderNo,
-        count: u8,
-        value: u32,
-    },
-    ChoiceNext {
-        header: HeaderNo,
-        count: u8,
-        value: u32,
-    },
-    ChoiceEnd {
-        header: HeaderNo,
-        count: u8,
-    },
+    ChoiceValue(Choosing),
+    ChoiceColon(Choosing, u32),
+    ChoiceNext(Choosing, u32),
+    ChoiceEnd(Choosing),
 }
 
 #[derive(Clone, Copy)]

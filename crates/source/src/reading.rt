@@ -8,7 +8,7 @@ ghost use Rattle.source.specs.Reading.{missing as missing_of, unnamed as unnamed
 ghost use Rattle.source.specs.Stands.{seen_of, next_of, choices_of, goal_of, in_body_of, phase_of};
 ghost use Rattle.source.specs.Does.{Does, Reads};
 
-use crate::block::Block;
+use crate::block::{Block, TableSet};
 use crate::fault::Fault;
 use crate::looks::{expect, is_end, is_number, number, says};
 use crate::lookup::header;
@@ -26,12 +26,8 @@ fn missing(headers: &[HeaderName], next: Next) -> Option<usize>
     ensures { result ≡ missing_of (headers_of headers.now) (next_of next) }
 {
     match next {
-        Next::Ends => None,
-        Next::Header(_) => None,
-        Next::Later { name, at } => match header(headers, name.word()) {
-            Some(_) => None,
-            None => Some(at),
-        },
+        Next::Ends | Next::Header(_) => None,
+        Next::Later { name, at } => header(headers, name.word()).is_none().then_some(at),
         Next::Never { at } => Some(at),
     }
 }
@@ -40,14 +36,9 @@ fn missing(headers: &[HeaderName], next: Next) -> Option<usize>
 fn unnamed(headers: &[HeaderName], choices: &[Choice]) -> Option<usize>
     ensures { result ≡ unnamed_of (headers_of headers.now) (choices_of choices.now) }
 {
-    for k in 0..choices.len() {
-        let choice = choices[k];
-        match missing(headers, choice.next) {
-            Some(at) => return Some(at),
-            None => {}
-        }
-    }
-    None
+    choices
+        .iter()
+        .find_map(|choice| missing(headers, choice.next))
 }
 
 // The widths of the fields before any is declared: `out` has 8 bits.
@@ -85,7 +76,7 @@ impl Seen {
             body: Body {
                 rows: Vec::new(heap),
                 blocks: Vec::new(heap),
-                applied: 0,
+                applied: TableSet { bits: 0 },
                 begun: false,
                 end: 0,
             },
@@ -144,10 +135,7 @@ impl Seen {
     fn has_first(&self) -> bool
         ensures { result ≡ is_some (seen_of self.now).routes.first }
     {
-        match self.routes.first {
-            Some(_) => true,
-            None => false,
-        }
+        self.routes.first.is_some()
     }
 
     fn ended(&mut self, at: usize) -> Result<Phase, Fault>

@@ -8,10 +8,10 @@ ghost use Rattle.source.specs.Stands.{names_of, seen_of, choice_of, next_of, in_
 ghost use Rattle.source.specs.Does.{Does};
 
 use crate::fault::Fault;
-use crate::looks::{expect, expect_word, is_sign, known_header, number, says, word};
+use crate::looks::{expect, expect_word, is_sign, number, says, word};
 use crate::lookup::header;
 use crate::name::Name;
-use crate::phase::{FieldPhase, Phase, Purpose, RoutePhase};
+use crate::phase::{Choosing, FieldPhase, Phase, Purpose, RoutePhase};
 use crate::seen::{Choice, Names, Next, Seen};
 use program::field::FieldNo;
 use program::headers::HeaderNo;
@@ -73,7 +73,7 @@ impl Seen {
         ensures { Does (first_name (seen_of self.old) (token_of x.entry)) result self.new }
     {
         let word = word(x)?;
-        let header = known_header(x.at, self.names.header(word))?;
+        let header = self.names.header(word).ok_or(Fault::Name { at: x.at })?;
         self.set_first(header);
         Ok(Phase::InRoute(RoutePhase::FirstEnd))
     }
@@ -82,7 +82,7 @@ impl Seen {
         ensures { Does (after_name (seen_of self.old) (token_of x.entry)) result self.new }
     {
         let word = word(x)?;
-        let header = known_header(x.at, self.names.header(word))?;
+        let header = self.names.header(word).ok_or(Fault::Name { at: x.at })?;
         if self.has_by(header) {
             return Err(Fault::Name { at: x.at });
         }
@@ -90,38 +90,37 @@ impl Seen {
     }
 
     // A choice, or the end of the choices.
-    fn choice_value(&mut self, header: HeaderNo, count: u8, x: Token<'_>) -> Result<Phase, Fault>
-        ensures { Does (choice_value header.at count (seen_of self.old) (token_of x.entry)) result self.new }
+    fn choice_value(&mut self, choosing: Choosing, x: Token<'_>) -> Result<Phase, Fault>
+        ensures { Does (choice_value choosing.header.at choosing.count (seen_of self.old) (token_of x.entry)) result self.new }
     {
         if is_sign(x, Sign::Close) {
             return Ok(Phase::Item);
         }
         let value = number(x)?;
-        if count >= 8 {
+        if choosing.count >= 8 {
             return Err(Fault::Count { at: x.at });
         }
-        Ok(Phase::InRoute(RoutePhase::ChoiceColon {
-            header,
-            count: count + 1,
-            value,
-        }))
+        let one_more = Choosing {
+            header: choosing.header,
+            count: choosing.count + 1,
+        };
+        Ok(Phase::InRoute(RoutePhase::ChoiceColon(one_more, value)))
     }
 
     // A header that is declared must come behind the choosing one.
     fn chosen(
         &mut self,
-        header: HeaderNo,
-        count: u8,
+        choosing: Choosing,
         value: u32,
         word: &[u8],
         at: usize,
         found: Option<HeaderNo>,
     ) -> Result<Phase, Fault>
-        ensures { Does (chosen_at header.at count value word.now at (header_number found) (seen_of self.old)) result self.new }
+        ensures { Does (chosen_at choosing.header.at choosing.count value word.now at (header_number found) (seen_of self.old)) result self.new }
     {
         let next = match found {
             Some(next) => {
-                if next.at <= header.at {
+                if next.at <= choosing.header.at {
                     return Err(Fault::Name { at });
                 }
                 Next::Header(next)
@@ -129,33 +128,27 @@ impl Seen {
             None => later(word, at),
         };
         self.add_choice(Choice {
-            header,
+            header: choosing.header,
             value,
             next,
         })?;
-        Ok(Phase::InRoute(RoutePhase::ChoiceEnd { header, count }))
+        Ok(Phase::InRoute(RoutePhase::ChoiceEnd(choosing)))
     }
 
-    fn choice_next(
-        &mut self,
-        header: HeaderNo,
-        count: u8,
-        value: u32,
-        x: Token<'_>,
-    ) -> Result<Phase, Fault>
-        ensures { Does (choice_next header.at count value (seen_of self.old) (token_of x.entry)) result self.new }
+    fn choice_next(&mut self, choosing: Choosing, value: u32, x: Token<'_>) -> Result<Phase, Fault>
+        ensures { Does (choice_next choosing.header.at choosing.count value (seen_of self.old) (token_of x.entry)) result self.new }
     {
         if says(x, b"end") {
             self.add_choice(Choice {
-                header,
+                header: choosing.header,
                 value,
                 next: Next::Ends,
             })?;
-            return Ok(Phase::InRoute(RoutePhase::ChoiceEnd { header, count }));
+            return Ok(Phase::InRoute(RoutePhase::ChoiceEnd(choosing)));
         }
         let word = word(x)?;
         let found = self.names.header(word);
-        self.chosen(header, count, value, word, x.at, found)
+        self.chosen(choosing, value, word, x.at, found)
     }
 
     pub fn in_route(&mut self, phase: RoutePhase, x: Token<'_>) -> Result<Phase, Fault>
@@ -172,27 +165,15 @@ impl Seen {
                 expect_word(x, b"by")?;
                 Ok(Phase::InField(Purpose::By(header), FieldPhase::Named))
             }
-            RoutePhase::ChoiceValue { header, count } => self.choice_value(header, count, x),
-            RoutePhase::ChoiceColon {
-                header,
-                count,
-                value,
-            } => {
+            RoutePhase::ChoiceValue(choosing) => self.choice_value(choosing, x),
+            RoutePhase::ChoiceColon(choosing, value) => {
                 expect(x, Sign::Colon)?;
-                Ok(Phase::InRoute(RoutePhase::ChoiceNext {
-                    header,
-                    count,
-                    value,
-                }))
+                Ok(Phase::InRoute(RoutePhase::ChoiceNext(choosing, value)))
             }
-            RoutePhase::ChoiceNext {
-                header,
-                count,
-                value,
-            } => self.choice_next(header, count, value, x),
-            RoutePhase::ChoiceEnd { header, count } => {
+            RoutePhase::ChoiceNext(choosing, value) => self.choice_next(choosing, value, x),
+            RoutePhase::ChoiceEnd(choosing) => {
                 expect(x, Sign::Semicolon)?;
-                Ok(Phase::InRoute(RoutePhase::ChoiceValue { header, count }))
+                Ok(Phase::InRoute(RoutePhase::ChoiceValue(choosing)))
             }
         }
     }

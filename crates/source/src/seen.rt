@@ -1,5 +1,5 @@
 // What has been read so far.
-use crate::block::Block;
+use crate::block::{Block, TableSet};
 use crate::name::{FieldName, HeaderName, Name, TableName};
 use program::declarations::TableDeclaration;
 use program::field::{FieldNo, Widths};
@@ -54,7 +54,7 @@ pub struct Tables {
 pub struct Body {
     pub rows: Vec<Statement>,
     pub blocks: Vec<Block>,
-    pub applied: u32,
+    pub applied: TableSet,
     pub begun: bool,
     pub end: usize,
 }

@@ -25,10 +25,7 @@ impl Names {
     fn has_table(&self, word: &[u8]) -> bool
         ensures { result ≡ table_taken (names_of self.now) word.now }
     {
-        match table(&self.tables, word) {
-            Some(_) => true,
-            None => false,
-        }
+        table(&self.tables, word).is_some()
     }
 
     // The number of one more table.

@@ -9,9 +9,11 @@ ghost use Rattle.source.specs.Does.{Does};
 
 use crate::declaring::is_out;
 use crate::fault::Fault;
-use crate::looks::{expect, is_sign, known_field, known_header, word};
+use crate::looks::{expect, is_sign, word};
 use crate::lookup::{field, only};
-use crate::phase::{BodyPhase, FieldPhase, Goal, Part, Phase, Purpose, RoutePhase};
+use crate::phase::{
+    BodyPhase, Choosing, FieldPhase, Goal, Part, Phase, Purpose, Relation, RoutePhase,
+};
 use crate::seen::{Names, Seen};
 use crate::tabling::behind_list;
 use program::action::Operand;
@@ -34,16 +36,7 @@ impl Names {
     fn this_header(&self, header: HeaderNo, word: &[u8]) -> Option<HeaderNo>
         ensures { header_number result ≡ header_for (state.By header.at) (names_of self.now) word.now }
     {
-        match self.header(word) {
-            Some(found) => {
-                if found.at == header.at {
-                    Some(found)
-                } else {
-                    None
-                }
-            }
-            None => None,
-        }
+        self.header(word).filter(|found| found.at == header.at)
     }
 
     // The header that a name stands for: in `by` only the choosing one.
@@ -52,10 +45,7 @@ impl Names {
     {
         match purpose {
             Purpose::By(header) => self.this_header(header, word),
-            Purpose::Listed(_) => self.header(word),
-            Purpose::Target { .. } => self.header(word),
-            Purpose::Tested { .. } => self.header(word),
-            Purpose::Operand(_) => self.header(word),
+            _ => self.header(word),
         }
     }
 
@@ -65,10 +55,7 @@ impl Names {
     {
         match purpose {
             Purpose::By(header) => field(&self.fields, header, word),
-            Purpose::Listed(_) => self.bare(word),
-            Purpose::Target { .. } => self.bare(word),
-            Purpose::Tested { .. } => self.bare(word),
-            Purpose::Operand(_) => self.bare(word),
+            _ => self.bare(word),
         }
     }
 }
@@ -105,10 +92,7 @@ impl Seen {
     {
         match purpose {
             Purpose::Listed(part) => self.has_room(part),
-            Purpose::By(_) => true,
-            Purpose::Target { .. } => true,
-            Purpose::Tested { .. } => true,
-            Purpose::Operand(_) => true,
+            _ => true,
         }
     }
 
@@ -133,24 +117,24 @@ impl Seen {
             Purpose::By(header) => {
                 expect(x, Sign::Open)?;
                 self.set_by(header, field);
-                Ok(Phase::InRoute(RoutePhase::ChoiceValue { header, count: 0 }))
+                Ok(Phase::InRoute(RoutePhase::ChoiceValue(Choosing { header, count: 0 })))
             }
             Purpose::Listed(part) => self.listed(part, field, x),
-            Purpose::Target { adds, at } => {
+            Purpose::Target { verb, at } => {
                 expect(x, Sign::Is)?;
-                Ok(Phase::InBody(BodyPhase::Value(Goal::Change { adds, field, at })))
+                Ok(Phase::InBody(BodyPhase::Value(Goal::Change { verb, field, at })))
             }
             Purpose::Tested { at } => {
                 if is_sign(x, Sign::Equals) {
                     return Ok(Phase::InBody(BodyPhase::Value(Goal::Ask {
-                        less: false,
+                        relation: Relation::Equals,
                         field,
                         at,
                     })));
                 }
                 expect(x, Sign::Less)?;
                 Ok(Phase::InBody(BodyPhase::Value(Goal::Ask {
-                    less: true,
+                    relation: Relation::Less,
                     field,
                     at,
                 })))
@@ -171,13 +155,13 @@ impl Seen {
         ensures { Does (behind_name (purpose_of purpose) (header_number header) (field_number field) at (seen_of self.old) (token_of x.entry)) result self.new }
     {
         if is_sign(x, Sign::Dot) {
-            let header = known_header(at, header)?;
+            let header = header.ok_or(Fault::Name { at })?;
             if !self.has_room_for(purpose) {
                 return Err(Fault::Count { at });
             }
             return Ok(Phase::InField(purpose, FieldPhase::Member(header)));
         }
-        let field = known_field(at, field)?;
+        let field = field.ok_or(Fault::Name { at })?;
         if !self.has_room_for(purpose) {
             return Err(Fault::Count { at });
         }
@@ -188,7 +172,7 @@ impl Seen {
         ensures { Does (member_at (purpose_of purpose) header.at (seen_of self.old) (token_of x.entry)) result self.new }
     {
         let word = word(x)?;
-        let field = known_field(x.at, field(&self.names.fields, header, word))?;
+        let field = field(&self.names.fields, header, word).ok_or(Fault::Name { at: x.at })?;
         Ok(Phase::InField(purpose, FieldPhase::Past(field)))
     }
 

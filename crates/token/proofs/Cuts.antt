@@ -2,9 +2,8 @@
 use Rattle.std.proofs.Common.{◌≡◌, ℕ, zero, suc, ◌+◌, ◌-◌, ◌^◌, ◌<◌, ◌≤◌, Bool, true, false, cond, ◌&&◌, eqb, ltb, List, [], ◌∷◌, length, take, drop, Some, None, Option, sym, refl, ap, ◌∙◌, add-zero, arith, lit<}
 use Rattle.std.proofs.lemmas.List.{take_rest}
 use Rattle.std.proofs.lemmas.Bool.{cond-true, cond-false, lt-ltb, le-ltb}
-use Rattle.token.specs.declared.token.Stretch.TheVariants.{Run}
 use Rattle.token.specs.declared.token.Sign.{Sign}
-use Rattle.token.specs.Tokens.{Token, token, Kind, End, Word, Number, Huge, Lead, begins, decimal, hexadecimal, number, mark, single, gap, lead, front, is_alphanumeric, tokens_behind, tokens_from, behind}
+use Rattle.token.specs.Tokens.{Run, Token, token, Kind, End, Word, Number, Huge, Lead, begins, decimal, hexadecimal, number, mark, single, gap, lead, front, is_alphanumeric, tokens_behind, tokens_from, behind}
 use Rattle.token.proofs.Stretches.{front_some}
 
 pub behind_is : (k i : ℕ) (bs : List ℕ) → k ≤ length bs → tokens_behind k i bs ≡ tokens_from (i + k) (drop k bs)

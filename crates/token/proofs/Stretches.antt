@@ -1,26 +1,25 @@
--- How far a stretch goes, one byte on.
-use Rattle.std.proofs.Common.{◌≡◌, ℕ, zero, suc, ◌+◌, ◌<◌, ◌≤◌, Bool, true, false, cond, List, ◌∷◌, length, get_or, drop, refl, ap, ◌∙◌, arith}
-use Rattle.std.proofs.lemmas.List.{drop_more, drop_all}
-use Rattle.token.specs.declared.token.Stretch.{Stretch}
-use Rattle.token.specs.Tokens.{belongs, front}
+-- How far a stretch goes: as far as the library's word says.
+use Rattle.std.proofs.Common.{◌≡◌, ℕ, zero, suc, ◌+◌, ◌<◌, Bool, true, false, cond, not, eqb, List, [], ◌∷◌, refl, ap, ◌∙◌, arith}
+use Rattle.std.specs.Char.{is_ascii_alphanumeric}
+use Rattle.std.specs.List.{prefix_len}
+use Rattle.token.specs.Tokens.{Stretch, Run, Line, belongs, front}
 
-front_at : (s : Stretch) (bs : List ℕ) (i : ℕ) → i < length bs →
-    front s (drop i bs) ≡ cond (belongs s (get_or bs i 0)) (suc (front s (drop (i + 1) bs))) zero
+front_is : (s : Stretch) (p : ℕ → Bool) → ((b : ℕ) → p b ≡ belongs s b) → (bs : List ℕ) → prefix_len p bs ≡ front s bs
 unfolding front
-front_at s bs i h = rw (drop_more bs i 0 h) refl
+front_is s p same [] = refl
+front_is s p same (b ∷ bs) = ap (λ (t : Bool). cond t (1 + prefix_len p bs) 0) (same b) ∙ (elim (belongs s b) as (λ t. cond t (1 + prefix_len p bs) 0 ≡ cond t (suc (front s bs)) zero) [
+  | true ↦ omega (arith, front_is s p same bs)
+  | false ↦ refl
+])
 
-pub front_more : (s : Stretch) (bs : List ℕ) (i : ℕ) → i < length bs → belongs s (get_or bs i 0) ≡ true →
-    i + 1 + front s (drop (i + 1) bs) ≡ i + front s (drop i bs)
-front_more s bs i h t =
-    let e : front s (drop i bs) ≡ suc (front s (drop (i + 1) bs)) = front_at s bs i h ∙ ap (λ (b : Bool). cond b (suc (front s (drop (i + 1) bs))) zero) t in
-    omega (arith, e)
+pub front_line : (bs : List ℕ) → prefix_len (λ b. not (eqb b 10)) bs ≡ front Line bs
+front_line bs = front_is Line (belongs Line) (λ b. refl) bs
 
-pub front_stops : (s : Stretch) (bs : List ℕ) (i : ℕ) → i < length bs → belongs s (get_or bs i 0) ≡ false → front s (drop i bs) ≡ zero
-front_stops s bs i h t = front_at s bs i h ∙ ap (λ (b : Bool). cond b (suc (front s (drop (i + 1) bs))) zero) t
+pub same_letters : (b : ℕ) → is_ascii_alphanumeric b ≡ belongs Run b
+same_letters b = grind arith
 
-pub front_ends : (s : Stretch) (bs : List ℕ) (i : ℕ) → length bs ≤ i → front s (drop i bs) ≡ zero
-unfolding front
-front_ends s bs i h = rw (drop_all i bs h) refl
+pub front_run : (bs : List ℕ) → prefix_len is_ascii_alphanumeric bs ≡ front Run bs
+front_run bs = front_is Run is_ascii_alphanumeric same_letters bs
 
 -- a stretch whose first byte belongs to it has a byte at least
 pub front_some : (s : Stretch) (b : ℕ) (bs : List ℕ) → belongs s b ≡ true → 0 < front s (b ∷ bs)

@@ -1,9 +1,11 @@
 -- Numbers from 2 to the 32nd on need not be told apart while their digits are read.
-use Rattle.std.proofs.Common.{◌≡◌, ℕ, ◌+◌, ◌*◌, ◌^◌, ◌<◌, ◌≤◌, min, Bool, true, false, cond, ltb, ◌⊎◌, List, [], ◌∷◌, length, get_or, drop, Some, None, Option, sym, refl, ap, ◌∙◌, inl, inr, le_of_lt, mul-le-mul_left, mul-one, arith}
+use Rattle.std.proofs.Common.{◌≡◌, ℕ, ◌+◌, ◌-◌, ◌*◌, ◌^◌, ◌<◌, ◌≤◌, min, Bool, true, false, cond, ltb, ◌⊎◌, List, [], ◌∷◌, length, get_or, drop, Some, None, Option, sym, refl, ap, ◌∙◌, inl, inr, le_of_lt, mul-le-mul_left, mul-one, arith}
 use native.Mathlib.Nat.{min-eq_left, min-eq_right}
+use Rattle.std.specs.Char.{digit_value}
+use Rattle.std.specs.Option.{option_or}
 use Rattle.std.proofs.lemmas.List.{drop_more, drop_all}
 use Rattle.std.proofs.lemmas.Bool.{cases_lt, lt-ltb, le-ltb}
-use Rattle.token.specs.Tokens.{Kind, Number, Huge, digit, value_behind, number}
+use Rattle.token.specs.Tokens.{Kind, Number, Huge, digit, value_behind, number, within}
 use Rattle.token.specs.Stands.{capped}
 
 abbrev Alike : ℕ → ℕ → Type 0
@@ -66,3 +68,30 @@ number_capped (Some n) k = elim (cases_lt n (2 ^ 32)) [
   | inr g ↦ ap (λ (x : ℕ). cond (ltb x (2 ^ 32)) (Number x) Huge) (min-eq_right g) ∙ sym (ap (λ (t : Bool). cond t (Number n) Huge) (le-ltb n (2 ^ 32) g))
 ]
 number_capped None k = refl
+
+-- the library's value of a digit is ours, where it is below the base
+pub digit_same : (base b : ℕ) → base ≤ 16 → digit_value b < base → digit_value b ≡ digit b
+digit_same base b h l = grind arith
+
+in_decimal : (b : ℕ) → within 48 57 b ≡ true → digit_value b ≡ b - 48
+in_decimal b t = grind arith
+
+in_small : (b : ℕ) → within 97 102 b ≡ true → digit_value b ≡ b - 87
+in_small b t = grind arith
+
+in_large : (b : ℕ) → within 65 70 b ≡ true → digit_value b ≡ b - 55
+in_large b t = grind arith
+
+pub digit_none : (base b : ℕ) → base ≤ 16 → base ≤ digit_value b → base ≤ digit b
+digit_none base b h l = by_test (within 48 57 b) (within 97 102 b) (within 65 70 b) refl refl refl
+  where
+    by_test : (s t u : Bool) → within 48 57 b ≡ s → within 97 102 b ≡ t → within 65 70 b ≡ u → base ≤ cond s (b - 48) (cond t (b - 87) (cond u (b - 55) 16))
+    by_test true t u e f g = omega (arith, in_decimal b e, l)
+    by_test false true u e f g = omega (arith, in_small b f, l)
+    by_test false false true e f g = omega (arith, in_large b g, l)
+    by_test false false false e f g = h
+
+-- the first of two readings that gives a number decides
+pub number_either : (n : ℕ) (o p : Option ℕ) (k : Kind) → Some n ≡ option_or (capped o) (capped p) → number (Some n) k ≡ number o (number p k)
+number_either n (Some m) p k e = ap (λ (q : Option ℕ). number q k) e ∙ number_capped (Some m) k
+number_either n None p k e = ap (λ (q : Option ℕ). number q k) e ∙ number_capped p k

@@ -2,8 +2,6 @@
 use Rattle.std.specs.Prelude.{ℕ, zero, suc, ◌+◌, ◌-◌, ◌*◌, ◌^◌, Bool, false, cond, not, ◌&&◌, ◌||◌, List, [], ◌∷◌, length, take, drop, Some, None, Option, ◌==◌, nat_le, nat_lt, slice_index}
 use Rattle.token.specs.declared.token.Sign.{Sign}
 use Rattle.token.specs.declared.token.Sign.TheVariants.{Open, Close, Semicolon, Colon, Comma, Dot, Is, Equals, Less}
-use Rattle.token.specs.declared.token.Stretch.{Stretch}
-use Rattle.token.specs.declared.token.Stretch.TheVariants.{Run, Line}
 
 -- a word, a number below 2 to the 32nd, a larger number, a sign, a byte that is none of these, or the end
 pub data Kind : Type 0 where
@@ -13,6 +11,11 @@ pub data Kind : Type 0 where
   Mark : Sign → Kind
   Other : Kind
   End : Kind
+
+-- bytes that are read as long as they go: the letters and digits of a run, or all of a comment's line
+pub data Stretch : Type 0 where
+  Run : Stretch
+  Line : Stretch
 
 -- a token and its offset
 pub record Token : Type 0 where

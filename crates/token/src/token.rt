@@ -1,6 +1,6 @@
 // What a source is cut into.
 
-#[derive(Clone, Copy)]
+#[derive(Clone, Copy, Debug, PartialEq, Eq)]
 pub enum Sign {
     Open,
     Close,
@@ -13,7 +13,7 @@ pub enum Sign {
     Less,
 }
 
-#[derive(Clone, Copy)]
+#[derive(Clone, Copy, Debug, PartialEq, Eq)]
 pub enum Kind<'a> {
     Word(&'a [u8]),
     Number(u32),
@@ -26,22 +26,15 @@ pub enum Kind<'a> {
 }
 
 // A token, and the offset of its first byte.
-#[derive(Clone, Copy)]
+#[derive(Clone, Copy, Debug, PartialEq, Eq)]
 pub struct Token<'a> {
     pub kind: Kind<'a>,
     pub at: usize,
 }
 
 // The kind of a token, and how many bytes it has.
-#[derive(Clone, Copy)]
+#[derive(Clone, Copy, Debug, PartialEq, Eq)]
 pub struct Lead<'a> {
     pub kind: Kind<'a>,
     pub width: usize,
-}
-
-// Bytes that are read as long as they go: the letters and digits of a run, or all of a comment's line.
-#[derive(Clone, Copy)]
-pub enum Stretch {
-    Run,
-    Line,
 }
