@@ -1,4 +1,3 @@
-pub mod Fronts
 pub mod Among
 pub mod Loops
 pub mod Declared

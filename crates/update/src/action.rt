@@ -1,6 +1,7 @@
 // The actions of an entry.
-ghost use Rattle.std.specs.Prelude.{◌≡◌, ℕ, ◌≤◌, cond, List, IfOk, nat_lt, slice_index};
-ghost use Rattle.program.specs.Stands.{bits_of, operand_of, action_of, declarations_of, table_of, numbers_of};
+ghost use Rattle.std.specs.Prelude.{◌≡◌, ℕ, ◌≤◌, cond, List, IfOk, ◌==◌, nat_lt, slice_index};
+ghost use Rattle.std.specs.List.{find};
+ghost use Rattle.program.specs.Stands.{FieldNo, bits_of, operand_of, action_of, declarations_of, table_of, numbers_of};
 ghost use Rattle.update.specs.Decoded.{Refused, NoField};
 ghost use Rattle.update.specs.Decoding.{among, is_there, field_at, operand_at, change_by, settable_at, action_at, count_at};
 ghost use Rattle.update.specs.Stands.{Gives, Found, change_of};
@@ -53,14 +54,8 @@ impl Cursor<'_> {
     {
         let from = self.at;
         match self.byte()? {
-            0 => {
-                let n = self.word()?;
-                Ok(Operand::Number(n))
-            }
-            1 => {
-                let field = self.field(declarations)?;
-                Ok(Operand::Field(field))
-            }
+            0 => Ok(Operand::Number(self.word()?)),
+            1 => Ok(Operand::Field(self.field(declarations)?)),
             _ => Err(Fault::NoOperand(from)),
         }
     }
@@ -71,10 +66,7 @@ impl Cursor<'_> {
     {
         let at = self.at;
         let f = self.byte()?;
-        match known(declarations.widths, f) {
-            Some(field) => Ok(field),
-            None => Err(Fault::NoField(at)),
-        }
+        known(declarations.widths, f).ok_or(Fault::NoField(at))
     }
 
     // A field that the table may set.
@@ -83,10 +75,7 @@ impl Cursor<'_> {
     {
         let at = self.at;
         let f = self.byte()?;
-        match found(&table.sets, f) {
-            Some(field) => Ok(field),
-            None => Err(Fault::NotItsField(at)),
-        }
+        found(&table.sets, f).ok_or(Fault::NotItsField(at))
     }
 }
 
@@ -123,13 +112,7 @@ fn known(widths: Widths, f: u8) -> Option<FieldNo>
 
 // The field of this number among others.
 fn found(fields: &[FieldNo], f: u8) -> Option<FieldNo>
-    ensures { Found result (among f (numbers_of fields.now)) f }
+    ensures { result ≡ find (λ (x : FieldNo). x.at == f) fields.now }
 {
-    for k in 0..fields.len() {
-        let field = fields[k];
-        if field.at == f {
-            return Some(field);
-        }
-    }
-    None
+    fields.iter().copied().find(|field| field.at == f)
 }

@@ -1,7 +1,9 @@
 // The edits of an update.
-ghost use Rattle.std.specs.Prelude.{◌≡◌, ℕ, ◌<◌, List, [], ◌∷◌, ◌++◌, if◌then◌else◌, vec_len};
+ghost use Rattle.std.specs.Prelude.{◌≡◌, ℕ, ◌<◌, List, [], ◌∷◌, ◌++◌, ◌==◌, vec_len};
 ghost use Rattle.program.specs.Stands.{declarations_of, table_of};
 ghost use Rattle.table.specs.Stands.{entries_of, edit_of, edits_of};
+ghost use Rattle.std.specs.List.{list_any};
+ghost use Rattle.table.specs.declared.entry.Edit.{Edit};
 ghost use Rattle.update.specs.Decoding.{among, named, entries_at, size_at, table_at, edit_at, edits_at};
 ghost use Rattle.update.specs.Stands.{Gives, entries_listed, edits_listed};
 
@@ -24,14 +26,8 @@ impl Cursor<'_> {
     {
         let mut edits = Vec::new(heap);
         for _turn in 0..count {
-            match self.edit(heap, declarations, &edits) {
-                Ok(edit) => {
-                    if !pushed(&mut edits, edit) {
-                        return Err(Fault::NoMemory);
-                    }
-                }
-                Err(fault) => return Err(fault),
-            }
+            let edit = self.edit(heap, declarations, &edits)?;
+            edits.push(edit)?;
         }
         Ok(edits)
     }
@@ -64,10 +60,7 @@ impl Cursor<'_> {
             return Err(Fault::TableTwice(at));
         }
         // no program has more than 32 tables
-        if n >= 32 {
-            return Err(Fault::NoMemory);
-        }
-        Ok(TableNo { at: n })
+        TableNo::new(n as usize).ok_or(Fault::NoMemory)
     }
 
     // How many entries a table is given.
@@ -92,10 +85,11 @@ impl Cursor<'_> {
     ) -> Result<Vec<Entry>, Fault>
         ensures { Gives (entries_at (declarations_of declarations.now) ((declarations_of declarations.now).table table.at) count [] self.old.at self.old.rest.now) result entries_listed self.new.at self.new.rest.now }
     {
-        match declarations.tables.get(table.at as usize) {
-            Some(declared) => self.entries(heap, declarations, declared, count),
-            None => Err(Fault::NoMemory),
-        }
+        let declared = declarations
+            .tables
+            .get(table.at as usize)
+            .ok_or(Fault::NoMemory)?;
+        self.entries(heap, declarations, declared, count)
     }
 
     // So many entries of a table.
@@ -110,14 +104,8 @@ impl Cursor<'_> {
     {
         let mut entries = Vec::new(heap);
         for _turn in 0..count {
-            match self.entry(declarations, table) {
-                Ok(entry) => {
-                    if !pushed(&mut entries, entry) {
-                        return Err(Fault::NoMemory);
-                    }
-                }
-                Err(fault) => return Err(fault),
-            }
+            let entry = self.entry(declarations, table)?;
+            entries.push(entry)?;
         }
         Ok(entries)
     }
@@ -127,30 +115,15 @@ impl Cursor<'_> {
 fn lines_of(declarations: &Declarations, table: TableNo) -> u16
     ensures { result ≡ ((declarations_of declarations.now).table table.at).lines }
 {
-    match declarations.tables.get(table.at as usize) {
-        Some(declared) => declared.lines,
-        None => 0,
-    }
+    declarations
+        .tables
+        .get(table.at as usize)
+        .map_or(0, |declared| declared.lines)
 }
 
 // Whether a table was named.
 fn is_named(edits: &[Edit], n: u8) -> bool
-    ensures { result ≡ among n (named (edits_of edits.now)) }
+    ensures { result ≡ list_any (λ (g : Edit). g.table.at == n) edits.now }
 {
-    for k in 0..edits.len() {
-        if edits[k].table.at == n {
-            return true;
-        }
-    }
-    false
-}
-
-// One more, if there is memory for it.
-fn pushed<T: Drop>(row: &mut Vec<T>, x: T) -> bool
-    ensures { row.new.items ≡ (if result then row.old.items ++ (x ∷ []) else row.old.items) }
-{
-    match row.push(x) {
-        Ok(()) => true,
-        Err(_) => false,
-    }
+    edits.iter().any(|edit| edit.table.at == n)
 }

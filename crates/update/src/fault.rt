@@ -1,6 +1,9 @@
 // Why an update is refused, and at which offset.
 ghost use Rattle.std.specs.Prelude.{◌≡◌};
+ghost use Rattle.update.specs.declared.fault.Fault.TheVariants.{NoMemory};
 ghost use Rattle.update.specs.Answers.{answer_of};
+
+use std::alloc::AllocFailed;
 
 #[derive(Clone, Copy)]
 pub enum Fault {
@@ -27,6 +30,14 @@ pub enum Fault {
     // a field that the table may not set
     NotItsField(usize),
     NoMemory,
+}
+
+impl<T: Drop> From<AllocFailed<T>> for Fault {
+    ghost from_gives = { λ _ f. f ≡ NoMemory };
+
+    fn from(_refused: AllocFailed<T>) -> Fault {
+        Fault::NoMemory
+    }
 }
 
 impl Fault {
