@@ -1,10 +1,13 @@
 // Why a source is refused.
 ghost use Rattle.std.specs.Prelude.{◌≡◌};
+ghost use Rattle.codes.specs.Codes.{number_of};
 ghost use Rattle.compiler.specs.Refusals.{answer_of};
 
+use codes::answer::Answer;
+use codes::code::Code;
 use source::fault::Fault;
 
-#[derive(Clone, Copy)]
+#[derive(Clone, Copy, Debug, PartialEq, Eq)]
 pub enum Refusal {
     // A fault that was found while reading.
     Unread(Fault),
@@ -16,16 +19,14 @@ pub enum Refusal {
 
 impl Refusal {
     // The code and the offset that stand for it.
-    pub fn answer(self) -> (u8, usize)
-        ensures { (result.0, result.1) ≡ answer_of self }
+    pub fn answer(self) -> Answer
+        ensures { (number_of result.code, result.offset) ≡ answer_of self }
     {
-        match self {
-            Refusal::Unread(fault) => {
-                let answer = fault.answer();
-                (answer.code, answer.offset)
-            }
-            Refusal::Unplaced(offset) => (10, offset as usize),
-            Refusal::Memory => (255, 0),
-        }
+        let (code, offset) = match self {
+            Refusal::Unread(fault) => return fault.answer(),
+            Refusal::Unplaced(offset) => (Code::Stage, offset as usize),
+            Refusal::Memory => (Code::Memory, 0),
+        };
+        Answer { code, offset }
     }
 }

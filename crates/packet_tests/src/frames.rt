@@ -119,7 +119,7 @@ fn refused(rt: HostRuntime) -> Result<(), Fail> {
         let Err(refused) = parse(&headers, &widths, &bytes[0..length]) else {
             return Err(Fail::new("not refused"));
         };
-        assert_eq!(rt; refused.code(), 6);
+        assert_eq!(rt; u8::from(refused.code()), 6);
     }
     assert!(rt; parse(&headers, &widths, &bytes[0..46]).is_ok());
     assert!(rt; parse(&headers, &widths, &[0; 2048]).is_ok());

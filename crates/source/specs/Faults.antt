@@ -2,12 +2,12 @@
 use Rattle.std.specs.Prelude.{ℕ}
 use Rattle.source.specs.declared.fault.Fault.{Fault}
 use Rattle.source.specs.declared.fault.Fault.TheVariants.{Unawaited, Name, Range, Header, Depth, Twice, Count, Memory}
-use Rattle.source.specs.declared.fault.Answer.{Answer}
+use Rattle.codes.specs.Codes.{Told}
 
-abbrev answer : ℕ → ℕ → Answer
+abbrev answer : ℕ → ℕ → Told
 answer code at = record { code = code; offset = at }
 
-abbrev pub answer_of : Fault → Answer
+abbrev pub answer_of : Fault → Told
 answer_of (Unawaited at) = answer 2 at
 answer_of (Name at) = answer 3 at
 answer_of (Range at) = answer 4 at

@@ -4,7 +4,7 @@ ghost use Rattle.source.specs.declared.fault.Fault.TheVariants.{Memory};
 
 use std::alloc::{AllocError, AllocFailed};
 
-#[derive(Clone, Copy)]
+#[derive(Clone, Copy, Debug, PartialEq, Eq)]
 pub enum Fault {
     // A token that the grammar does not await.
     Unawaited { at: usize },
@@ -22,13 +22,6 @@ pub enum Fault {
     Count { at: usize },
     // Want of memory.
     Memory,
-}
-
-// The code of a fault, and its offset in the source.
-#[derive(Clone, Copy)]
-pub struct Answer {
-    pub code: u8,
-    pub offset: usize,
 }
 
 impl From<AllocError> for Fault {

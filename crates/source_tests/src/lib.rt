@@ -10,7 +10,7 @@ pub fn answer(heap: Global, text: &[u8]) -> (u8, usize) {
         Ok(_) => (0, 0),
         Err(fault) => {
             let answer = fault.answer();
-            (answer.code, answer.offset)
+            (u8::from(answer.code), answer.offset)
         }
     }
 }

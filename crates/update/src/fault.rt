@@ -1,11 +1,14 @@
 // Why an update is refused, and at which offset.
 ghost use Rattle.std.specs.Prelude.{◌≡◌};
 ghost use Rattle.update.specs.declared.fault.Fault.TheVariants.{NoMemory};
+ghost use Rattle.codes.specs.Codes.{number_of};
 ghost use Rattle.update.specs.Answers.{answer_of};
 
+use codes::answer::Answer;
+use codes::code::Code;
 use std::alloc::AllocFailed;
 
-#[derive(Clone, Copy)]
+#[derive(Clone, Copy, Debug, PartialEq, Eq)]
 pub enum Fault {
     // the bytes run out within a number; the offset is that of the end
     RunsOut(usize),
@@ -42,22 +45,21 @@ impl<T: Drop> From<AllocFailed<T>> for Fault {
 
 impl Fault {
     // The code and the offset that stand for it.
-    pub fn answer(self) -> (u8, usize)
-        ensures { result ≡ answer_of self }
+    pub fn answer(self) -> Answer
+        ensures { (number_of result.code, result.offset) ≡ answer_of self }
     {
-        match self {
-            Fault::RunsOut(at) => (1, at),
-            Fault::LeftOver(at) => (1, at),
-            Fault::NoAction(at) => (2, at),
-            Fault::NoOperand(at) => (2, at),
-            Fault::NoField(at) => (3, at),
-            Fault::TooWide(at) => (4, at),
-            Fault::NoTable(at) => (11, at),
-            Fault::TableTwice(at) => (11, at),
-            Fault::TooManyEntries(at) => (11, at),
-            Fault::TooManyActions(at) => (11, at),
-            Fault::NotItsField(at) => (11, at),
-            Fault::NoMemory => (255, 0),
-        }
+        let (code, offset) = match self {
+            Fault::RunsOut(at) | Fault::LeftOver(at) => (Code::Bytes, at),
+            Fault::NoAction(at) | Fault::NoOperand(at) => (Code::Unawaited, at),
+            Fault::NoField(at) => (Code::Name, at),
+            Fault::TooWide(at) => (Code::Range, at),
+            Fault::NoTable(at)
+            | Fault::TableTwice(at)
+            | Fault::TooManyEntries(at)
+            | Fault::TooManyActions(at)
+            | Fault::NotItsField(at) => (Code::Table, at),
+            Fault::NoMemory => (Code::Memory, 0),
+        };
+        Answer { code, offset }
     }
 }
