@@ -4,10 +4,10 @@ use Rattle.std.proofs.lemmas.List.{map_push, append_assoc, append-nil}
 use Rattle.program.specs.declared.headers.Header as plain
 use Rattle.packet.specs.Header as packet
 use Rattle.packet.specs.Stands.{header_of}
-use Rattle.source.specs.Names.{headers_of}
+use Rattle.source.specs.Names.{entries_of}
 use Rattle.source.specs.State.{Seen}
 use Rattle.source.specs.Stands.{choices_of as choices_seen}
-use Rattle.source.specs.declared.name.HeaderName.{HeaderName}
+use Rattle.source.specs.declared.name.Named.{Named}
 use Rattle.source.specs.declared.seen.Choice.{Choice}
 use Rattle.compiler.specs.Packaging.{header, headers_from, choices_of, if_after}
 
@@ -15,9 +15,9 @@ pub header_is : (first first' count count' by by' : ℕ) (choices choices' : Lis
     ◌≡◌ {A = packet.Header} (record { first = first; count = count; by = by; choices = choices }) (record { first = first'; count = count'; by = by'; choices = choices' })
 header_is a a' b b' c c' d d' p q r s = λ i. record { first = p i; count = q i; by = r i; choices = s i }
 
-pub same_choices : (h : ℕ) (by by' : Option ℕ) (hs hs' : List HeaderName) (cs cs' : List Choice) → by ≡ by' → hs ≡ hs' → cs ≡ cs' →
-    if_after by (choices_of (headers_of hs) h (choices_seen cs)) ≡ if_after by' (choices_of (headers_of hs') h (choices_seen cs'))
-same_choices h by by' hs hs' cs cs' p q r = λ i. if_after (p i) (choices_of (headers_of (q i)) h (choices_seen (r i)))
+pub same_choices : (h : ℕ) (by by' : Option ℕ) (hs hs' : List (Named 8)) (cs cs' : List Choice) → by ≡ by' → hs ≡ hs' → cs ≡ cs' →
+    if_after by (choices_of (entries_of hs) h (choices_seen cs)) ≡ if_after by' (choices_of (entries_of hs') h (choices_seen cs'))
+same_choices h by by' hs hs' cs cs' p q r = λ i. if_after (p i) (choices_of (entries_of (q i)) h (choices_seen (r i)))
 
 next_header_lem : (d : Seen) (h n : ℕ) → headers_from d h (suc n) ≡ header d h ∷ headers_from d (h + 1) n
 unfolding headers_from

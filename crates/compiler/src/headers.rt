@@ -1,7 +1,7 @@
 // The headers of a program.
 ghost use Rattle.std.specs.Prelude.{◌≡◌, ◌+◌, ◌<◌, ◌≤◌, map, length, IfOk, if◌then◌else◌, None, vec_len, slice_index_or};
 ghost use Rattle.packet.specs.Stands.{header_of, headers_of};
-ghost use Rattle.source.specs.Names.{fields_of, field_number};
+ghost use Rattle.source.specs.Names.{fields_of, number_of};
 ghost use Rattle.source.specs.Stands.{seen_of};
 ghost use Rattle.compiler.specs.Packaging.{fields_in, fields_before, header as header_in, headers_from};
 
@@ -44,7 +44,7 @@ fn counted(fields: &[FieldName], number: u8) -> Span
 // The choosing field of a header.
 fn chooser(by: [Option<FieldNo>; 8], number: u8) -> Option<FieldNo>
     requires { number < 8 }
-    ensures { field_number result ≡ slice_index_or (map field_number by) number None }
+    ensures { number_of result ≡ slice_index_or (map number_of by) number None }
 {
     by[number as usize]
 }

@@ -1,6 +1,6 @@
 // From what was read of a source to the program that it gives.
 ghost use Rattle.std.specs.Prelude.{◌≡◌, ◌≤◌, vec_len, MatchResult};
-ghost use Rattle.source.specs.Names.{header_number};
+ghost use Rattle.source.specs.Names.{number_of};
 ghost use Rattle.source.specs.Stands.{seen_of};
 ghost use Rattle.compiler.specs.declared.refusal.Refusal.TheVariants.{Memory};
 ghost use Rattle.compiler.specs.Packaging.{packaged as packaged_in, or_first};
@@ -16,7 +16,7 @@ use std::alloc::Global;
 
 // The header that comes first.
 fn first(named: Option<HeaderNo>) -> HeaderNo
-    ensures { result.at ≡ or_first (header_number named) }
+    ensures { result.at ≡ or_first (number_of named) }
 {
     match named {
         Some(header) => header,

@@ -1,4 +1,3 @@
 pub mod Finding
-pub mod Giving
 pub mod Runs
 pub mod Deciding

@@ -1,12 +1,10 @@
--- The steps of the loops over choices and over tokens.
-use Rattle.std.proofs.Common.{[], MatchOption, ◌≡◌, ℕ, zero, suc, ◌<◌, ◌≤◌, Bool, true, false, cond, List, ◌∷◌, map, length, get_or, replicate, is_some, Some, None, Option, sym, refl, ap, ◌∙◌, arith}
-use Rattle.std.proofs.lemmas.List.{get_or-map}
+-- The first choice whose header was never declared, and the steps of the loop over tokens.
+use Rattle.std.proofs.Common.{[], MatchOption, ◌≡◌, ℕ, zero, suc, ◌<◌, Bool, true, false, cond, List, ◌∷◌, map, length, get_or, Some, None, Option, sym, refl, ap, ◌∙◌, arith}
 use Rattle.std.proofs.lemmas.Bool.{false≢true}
-use Rattle.program.specs.Stands.{FieldNo}
 use Rattle.token.specs.Tokens.{Kind, Word, Number, Huge, Mark, Other, End, Token, behind}
 use Rattle.source.specs.declared.fault.Fault.{Fault}
 use Rattle.source.specs.declared.seen.Choice.{Choice}
-use Rattle.source.specs.Names.{Entry, field_number}
+use Rattle.source.specs.Names.{Entry}
 use Rattle.source.specs.State.{Phase, Seen}
 use Rattle.source.specs.Steps.{Step, go, stop, is_end}
 use Rattle.source.specs.Reading.{missing, or_else, unnamed, step, taken, refused, onward, run}
@@ -37,18 +35,6 @@ unnamed_some hs (c ∷ cs) at (suc i) l e h =
 pub unnamed_first : (hs : List Entry) (cs : List Choice) (r : Option ℕ) → MatchOption r (NoneBelow hs cs (length cs)) (FirstAt hs cs) → r ≡ unnamed hs (map choice_of cs)
 unnamed_first hs cs None h = sym (unnamed_none hs cs h)
 unnamed_first hs cs (Some at) h = sym (unnamed_some hs cs at h.0 h.1.0 h.1.1.0 h.1.1.1)
-
-some_number : (o : Option FieldNo) → is_some o ≡ is_some (field_number o)
-some_number (Some f) = refl
-some_number None = refl
-
-pub some_at : (os : List (Option FieldNo)) (i : ℕ) (d : Option FieldNo) → i < length os → is_some (get_or os i d) ≡ is_some (get_or (map field_number os) i None)
-some_at os i d h = some_number (get_or os i d) ∙ ap is_some (sym (get_or-map field_number os i d None h))
-
-pub zeros : (n f : ℕ) → get_or (replicate n 0) f 0 ≤ 32
-zeros zero f = omega arith
-zeros (suc n) zero = omega arith
-zeros (suc n) (suc f) = zeros n f
 
 not_end : (k : Kind) (ts : List Token) → is_end k ≡ false → behind k ts ≡ ts
 not_end (Word w) ts e = refl

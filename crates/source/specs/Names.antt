@@ -1,13 +1,10 @@
 -- Names that are declared, and what they stand for.
 use Rattle.std.specs.Prelude.{ℕ, cond, ◌&&◌, List, [], ◌∷◌, map, take, Some, None, Option, ◌==◌}
 use Rattle.std.specs.Str.{bytes_eq}
-use Rattle.program.specs.Stands.{FieldNo}
-use Rattle.program.specs.Stands.{TableNo}
-use Rattle.program.specs.Stands.{HeaderNo}
+use Rattle.program.specs.declared.field.No.{No}
 use Rattle.source.specs.declared.name.Name.{Name}
-use Rattle.source.specs.declared.name.HeaderName.{HeaderName}
+use Rattle.source.specs.declared.name.Named.{Named}
 use Rattle.source.specs.declared.name.FieldName.{FieldName}
-use Rattle.source.specs.declared.name.TableName.{TableName}
 
 -- a header or a table: its name and its number
 pub record Entry : Type 0 where
@@ -44,32 +41,18 @@ only fs w = only_behind None fs w
 abbrev pub name_of : Name → List ℕ
 name_of n = take n.len n.bytes
 
-abbrev pub header_of : HeaderName → Entry
-header_of h = record { name = name_of h.name; number = h.no.at }
-
-abbrev pub table_of : TableName → Entry
-table_of t = record { name = name_of t.name; number = t.no.at }
+abbrev pub entry_of : {n : ℕ} → Named n → Entry
+entry_of e = record { name = name_of e.name; number = e.no.at }
 
 abbrev pub field_of : FieldName → Field
 field_of f = record { name = name_of f.name; header = f.header.at; number = f.no.at }
 
-abbrev pub headers_of : List HeaderName → List Entry
-headers_of hs = map header_of hs
-
-abbrev pub tables_of : List TableName → List Entry
-tables_of ts = map table_of ts
+abbrev pub entries_of : {n : ℕ} → List (Named n) → List Entry
+entries_of es = map entry_of es
 
 abbrev pub fields_of : List FieldName → List Field
 fields_of fs = map field_of fs
 
-abbrev pub header_number : Option HeaderNo → Option ℕ
-header_number (Some h) = Some h.at
-header_number None = None
-
-abbrev pub table_number : Option TableNo → Option ℕ
-table_number (Some t) = Some t.at
-table_number None = None
-
-abbrev pub field_number : Option FieldNo → Option ℕ
-field_number (Some f) = Some f.at
-field_number None = None
+abbrev pub number_of : {n : ℕ} → Option (No n) → Option ℕ
+number_of (Some x) = Some x.at
+number_of None = None

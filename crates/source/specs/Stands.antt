@@ -41,7 +41,7 @@ use Rattle.source.specs.declared.phase.BodyPhase.{BodyPhase}
 use Rattle.source.specs.declared.phase.BodyPhase.TheVariants as inbody
 use Rattle.source.specs.declared.phase.Phase.{Phase}
 use Rattle.source.specs.declared.phase.Phase.TheVariants as phase
-use Rattle.source.specs.Names.{headers_of, fields_of, tables_of, name_of, header_number, field_number}
+use Rattle.source.specs.Names.{entries_of, fields_of, entries_of, name_of, number_of, number_of}
 use Rattle.source.specs.State as state
 
 abbrev pub next_of : Next → state.Next
@@ -89,16 +89,16 @@ blocks_of bs = map block_of (reverse bs)
 
 abbrev pub names_of : Names → state.Names
 names_of n = record {
-  headers = headers_of (vec_items n.headers);
+  headers = entries_of (vec_items n.headers);
   fields = fields_of (vec_items n.fields);
   widths = bits_of n.widths;
-  tables = tables_of (vec_items n.tables);
+  tables = entries_of (vec_items n.tables);
 }
 
 abbrev pub routes_of : Routes → state.Routes
 routes_of r = record {
-  first = header_number r.first;
-  by = map field_number r.by;
+  first = number_of r.first;
+  by = map number_of r.by;
   choices = choices_of (vec_items r.choices);
 }
 
@@ -177,7 +177,7 @@ in_table_of (intable.TableClose n) = state.TableClose n
 
 abbrev pub in_field_of : FieldPhase → state.FieldPhase
 in_field_of infield.Named = state.Named
-in_field_of (infield.Behind h f at) = state.Behind (header_number h) (field_number f) at
+in_field_of (infield.Behind h f at) = state.Behind (number_of h) (number_of f) at
 in_field_of (infield.Member h) = state.Member h.at
 in_field_of (infield.Past f) = state.Past f.at
 

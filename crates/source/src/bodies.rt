@@ -10,7 +10,7 @@ ghost use Rattle.source.specs.Does.{Does};
 use crate::block::{Block, Detour, Fork, TableSet};
 use crate::fault::Fault;
 use crate::looks::{expect, is_sign, says, word};
-use crate::lookup::table;
+use crate::lookup::find;
 use crate::phase::{BodyPhase, FieldPhase, Goal, Phase, Purpose, Relation, Verb};
 use crate::seen::Seen;
 use program::action::{Action, Operand, Test};
@@ -207,7 +207,7 @@ impl Seen {
         ensures { Does (apply_name key (seen_of self.old) (token_of x.entry)) result self.new }
     {
         let word = word(x)?;
-        let table = table(&self.names.tables, word).ok_or(Fault::Name { at: x.at })?;
+        let table = find(&self.names.tables, word).ok_or(Fault::Name { at: x.at })?;
         self.applying(key, x.at, table)
     }
 

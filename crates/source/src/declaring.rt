@@ -3,15 +3,15 @@ ghost use Rattle.std.specs.Prelude.{◌≡◌, ◌+◌, ◌≤◌, length, Match
 ghost use Rattle.token.specs.Stands.{token_of};
 ghost use Rattle.program.specs.Stands.{FieldNo, HeaderNo};
 ghost use Rattle.source.specs.declared.fault.Fault.TheVariants.{Memory};
-ghost use Rattle.source.specs.Names.{header_of, field_of};
+ghost use Rattle.source.specs.Names.{entry_of, field_of};
 ghost use Rattle.source.specs.Steps.{room as room_at};
 ghost use Rattle.source.specs.Declaring.{is_out, header_taken, field_taken, add_header, add_field, set_width, header_name, field_name, field_width, in_header as in_header_at, whole_bytes, more_bits};
 ghost use Rattle.source.specs.Stands.{names_of, seen_of, in_header_of};
 ghost use Rattle.source.specs.Does.{Does, Gives};
 
 use crate::fault::Fault;
-use crate::looks::{expect, fresh, is_sign, number, word};
-use crate::lookup::{field, header};
+use crate::looks::{expect, fresh, is_sign, number, room, word};
+use crate::lookup::{field, find};
 use crate::name::{FieldName, HeaderName};
 use crate::phase::{Filling, HeaderPhase, Phase};
 use crate::seen::{Names, Seen};
@@ -27,49 +27,17 @@ pub fn is_out(word: &[u8]) -> bool
 }
 
 impl Names {
-    pub fn has_header(&self, word: &[u8]) -> bool
-        ensures { result ≡ header_taken (names_of self.now) word.now }
-    {
-        header(&self.headers, word).is_some()
-    }
-
     // Whether a name is taken for a field of a header: `out` is.
     pub fn has_field(&self, header: HeaderNo, word: &[u8]) -> bool
         ensures { result ≡ field_taken (names_of self.now) header.at word.now }
     {
         is_out(word) || field(&self.fields, header, word).is_some()
     }
-
-    // The number of one more header.
-    pub fn next_header(&self, at: usize) -> Result<HeaderNo, Fault>
-        ensures { Gives (room_at at (length (names_of self.now).headers) 8) (λ (h : HeaderNo). h.at) result }
-    {
-        let count = self.headers.len();
-        if count < 8 {
-            Ok(HeaderNo { at: count as u8 })
-        } else {
-            Err(Fault::Count { at })
-        }
-    }
-
-    // The number of one more field.
-    pub fn next_field(&self, at: usize) -> Result<FieldNo, Fault>
-        ensures { Gives (room_at at (length (names_of self.now).fields + 1) 64) (λ (f : FieldNo). f.at) result }
-    {
-        let count = self.fields.len();
-        if count < 63 {
-            Ok(FieldNo {
-                at: count as u8 + 1,
-            })
-        } else {
-            Err(Fault::Count { at })
-        }
-    }
 }
 
 impl Seen {
     pub fn add_header(&mut self, header: HeaderName) -> Result<(), Fault>
-        ensures { MatchResult result (λ _. seen_of self.new ≡ add_header (header_of header) (seen_of self.old)) (λ f. f ≡ Memory) }
+        ensures { MatchResult result (λ _. seen_of self.new ≡ add_header (entry_of header) (seen_of self.old)) (λ f. f ≡ Memory) }
     {
         self.names.headers.push(header)?;
         Ok(())
@@ -92,8 +60,8 @@ impl Seen {
         ensures { Does (header_name (seen_of self.old) (token_of x.entry)) result self.new }
     {
         let word = word(x)?;
-        let name = fresh(self.names.has_header(word), x.at, word)?;
-        let no = self.names.next_header(x.at)?;
+        let name = fresh(find(&self.names.headers, word).is_some(), x.at, word)?;
+        let no = room(self.names.headers.len(), x.at)?;
         self.add_header(HeaderName { name, no })?;
         Ok(Phase::InHeader(HeaderPhase::HeaderOpen(no)))
     }
@@ -112,7 +80,7 @@ impl Seen {
         let word = word(x)?;
         let header = filling.header;
         let name = fresh(self.names.has_field(header, word), x.at, word)?;
-        let no = self.names.next_field(x.at)?;
+        let no = room(self.names.fields.len() + 1, x.at)?;
         self.add_field(FieldName { name, header, no })?;
         Ok(Phase::InHeader(HeaderPhase::FieldWidth(filling, no)))
     }

@@ -2,13 +2,15 @@
 ghost use Rattle.std.specs.Prelude.{◌≡◌, ℕ, cond, List, is_some};
 ghost use Rattle.std.specs.Borrow.{Bor};
 ghost use Rattle.token.specs.Stands.{token_of, kind_of};
-ghost use Rattle.source.specs.Steps.{is_sign, is_end, number_of, says as says_of, sign as sign_at, keyword as keyword_at, word as word_at, number as number_at, fresh as fresh_at, Step, stop};
+ghost use Rattle.program.specs.declared.field.No.{No};
+ghost use Rattle.source.specs.Steps.{is_sign, is_end, number_of, says as says_of, sign as sign_at, keyword as keyword_at, word as word_at, number as number_at, fresh as fresh_at, room as room_at, Step, stop};
 ghost use Rattle.source.specs.Does.{Passes, Gives};
 ghost use Rattle.source.specs.Names.{name_of};
 ghost use Rattle.source.specs.declared.fault.Fault.TheVariants.{Unawaited};
 
 use crate::fault::Fault;
 use crate::name::Name;
+use program::field::No;
 use token::token::{Kind, Sign, Token};
 
 pub fn is_sign(x: Token<'_>, sign: Sign) -> bool
@@ -71,6 +73,13 @@ pub fn number(x: Token<'_>) -> Result<u32, Fault>
         Kind::Huge => Err(Fault::Range { at: x.at }),
         _ => Err(Fault::Unawaited { at: x.at }),
     }
+}
+
+// The number of one more, if there are fewer than may be.
+pub fn room<const N: u8>(count: usize, at: usize) -> Result<No<N>, Fault>
+    ensures { Gives (room_at at count N) (λ (n : No N). n.at) result }
+{
+    No::new(count).ok_or(Fault::Count { at })
 }
 
 // The name that a word declares.

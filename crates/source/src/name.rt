@@ -1,7 +1,7 @@
 // Names, and the numbers that they stand for.
 ghost use Rattle.std.specs.Prelude.{◌≤◌};
 
-use program::field::{FieldNo, TableNo};
+use program::field::{FieldNo, No};
 use program::headers::HeaderNo;
 
 // A name of at most 24 characters: the first `len` of the bytes.
@@ -12,21 +12,21 @@ pub struct Name {
     ghost within: { len ≤ 24 },
 }
 
+// A name, and the number that it stands for.
 #[derive(Clone, Copy)]
-pub struct HeaderName {
+pub struct Named<const N: u8> {
     pub name: Name,
-    pub no: HeaderNo,
+    pub no: No<N>,
 }
 
+pub type HeaderName = Named<8>;
+
+pub type TableName = Named<32>;
+
+// A field's name, its header, and its number.
 #[derive(Clone, Copy)]
 pub struct FieldName {
     pub name: Name,
     pub header: HeaderNo,
     pub no: FieldNo,
-}
-
-#[derive(Clone, Copy)]
-pub struct TableName {
-    pub name: Name,
-    pub no: TableNo,
 }

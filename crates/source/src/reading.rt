@@ -2,7 +2,7 @@
 ghost use Rattle.std.specs.Prelude.{◌≡◌, ◌∷◌, replicate, is_some};
 ghost use Rattle.program.specs.Stands.{bits_of};
 ghost use Rattle.token.specs.Stands.{token_of};
-ghost use Rattle.source.specs.Names.{headers_of};
+ghost use Rattle.source.specs.Names.{entries_of};
 ghost use Rattle.source.specs.State.{nothing};
 ghost use Rattle.source.specs.Reading.{missing as missing_of, unnamed as unnamed_of, operand as operand_at, in_body as in_body_at, complete as complete_at, item as item_at, step as step_at, read_source};
 ghost use Rattle.source.specs.Stands.{seen_of, next_of, choices_of, goal_of, in_body_of, phase_of};
@@ -11,7 +11,7 @@ ghost use Rattle.source.specs.Does.{Does, Reads};
 use crate::block::{Block, TableSet};
 use crate::fault::Fault;
 use crate::looks::{expect, is_end, is_number, number, says};
-use crate::lookup::header;
+use crate::lookup::find;
 use crate::name::HeaderName;
 use crate::phase::{BodyPhase, Goal, HeaderPhase, Phase, Purpose, RoutePhase, TablePhase};
 use crate::seen::{Body, Choice, Names, Next, Routes, Seen, Tables};
@@ -23,18 +23,18 @@ use token::token::{Sign, Token};
 
 // The offset of a name that no header has.
 fn missing(headers: &[HeaderName], next: Next) -> Option<usize>
-    ensures { result ≡ missing_of (headers_of headers.now) (next_of next) }
+    ensures { result ≡ missing_of (entries_of headers.now) (next_of next) }
 {
     match next {
         Next::Ends | Next::Header(_) => None,
-        Next::Later { name, at } => header(headers, name.word()).is_none().then_some(at),
+        Next::Later { name, at } => find(headers, name.word()).is_none().then_some(at),
         Next::Never { at } => Some(at),
     }
 }
 
 // The offset of the first choice whose header was never declared.
 fn unnamed(headers: &[HeaderName], choices: &[Choice]) -> Option<usize>
-    ensures { result ≡ unnamed_of (headers_of headers.now) (choices_of choices.now) }
+    ensures { result ≡ unnamed_of (entries_of headers.now) (choices_of choices.now) }
 {
     choices
         .iter()

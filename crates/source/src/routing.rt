@@ -2,14 +2,14 @@
 ghost use Rattle.std.specs.Prelude.{◌≡◌, ◌+◌, map, is_some, None, MatchResult, slice_index_or};
 ghost use Rattle.token.specs.Stands.{token_of};
 ghost use Rattle.source.specs.declared.fault.Fault.TheVariants.{Memory};
-ghost use Rattle.source.specs.Names.{find, header_number, field_number};
+ghost use Rattle.source.specs.Names.{find, number_of, number_of};
 ghost use Rattle.source.specs.Routing.{set_first, set_by, add_choice, has_by, first_name, after_name, choice_value, choice_next, chosen as chosen_at, later as later_of, in_route as in_route_at};
 ghost use Rattle.source.specs.Stands.{names_of, seen_of, choice_of, next_of, in_route_of};
 ghost use Rattle.source.specs.Does.{Does};
 
 use crate::fault::Fault;
 use crate::looks::{expect, expect_word, is_sign, number, says, word};
-use crate::lookup::header;
+use crate::lookup::find;
 use crate::name::Name;
 use crate::phase::{Choosing, FieldPhase, Phase, Purpose, RoutePhase};
 use crate::seen::{Choice, Names, Next, Seen};
@@ -20,15 +20,15 @@ use token::token::{Sign, Token};
 impl Names {
     // The header of a name.
     pub fn header(&self, word: &[u8]) -> Option<HeaderNo>
-        ensures { header_number result ≡ find (names_of self.now).headers word.now }
+        ensures { number_of result ≡ find (names_of self.now).headers word.now }
     {
-        header(&self.headers, word)
+        find(&self.headers, word)
     }
 }
 
 // Whether a header has a choosing field.
 fn is_chosen(by: [Option<FieldNo>; 8], header: HeaderNo) -> bool
-    ensures { result ≡ is_some (slice_index_or (map field_number by) header.at None) }
+    ensures { result ≡ is_some (slice_index_or (map number_of by) header.at None) }
 {
     by[header.at as usize].is_some()
 }
@@ -116,7 +116,7 @@ impl Seen {
         at: usize,
         found: Option<HeaderNo>,
     ) -> Result<Phase, Fault>
-        ensures { Does (chosen_at choosing.header.at choosing.count value word.now at (header_number found) (seen_of self.old)) result self.new }
+        ensures { Does (chosen_at choosing.header.at choosing.count value word.now at (number_of found) (seen_of self.old)) result self.new }
     {
         let next = match found {
             Some(next) => {

@@ -3,7 +3,7 @@ ghost use Rattle.std.specs.Prelude.{◌≡◌, length, MatchResult};
 ghost use Rattle.token.specs.Stands.{token_of};
 ghost use Rattle.program.specs.Stands.{TableNo};
 ghost use Rattle.source.specs.declared.fault.Fault.TheVariants.{Memory};
-ghost use Rattle.source.specs.Names.{table_of};
+ghost use Rattle.source.specs.Names.{entry_of};
 ghost use Rattle.source.specs.Steps.{room as room_at};
 ghost use Rattle.source.specs.Tabling.{table_taken, add_table, declare as declare_at, table_name, list_start, lines as lines_at, in_table as in_table_at};
 ghost use Rattle.source.specs.Using.{behind_list, add_listed};
@@ -11,35 +11,15 @@ ghost use Rattle.source.specs.Stands.{names_of, seen_of, part_of, in_table_of};
 ghost use Rattle.source.specs.Does.{Does, Gives};
 
 use crate::fault::Fault;
-use crate::looks::{expect, expect_word, fresh, is_sign, number, word};
-use crate::lookup::table;
+use crate::looks::{expect, expect_word, fresh, is_sign, number, room, word};
+use crate::lookup::find;
 use crate::name::TableName;
 use crate::phase::{Part, Phase, Purpose, TablePhase};
-use crate::seen::{Names, Seen};
+use crate::seen::Seen;
 use program::declarations::{MatchKind, TableDeclaration};
 use program::field::{FieldNo, TableNo};
 use std::mem;
 use token::token::{Sign, Token};
-
-impl Names {
-    fn has_table(&self, word: &[u8]) -> bool
-        ensures { result ≡ table_taken (names_of self.now) word.now }
-    {
-        table(&self.tables, word).is_some()
-    }
-
-    // The number of one more table.
-    fn next_table(&self, at: usize) -> Result<TableNo, Fault>
-        ensures { Gives (room_at at (length (names_of self.now).tables) 32) (λ (t : TableNo). t.at) result }
-    {
-        let count = self.tables.len();
-        if count < 32 {
-            Ok(TableNo { at: count as u8 })
-        } else {
-            Err(Fault::Count { at })
-        }
-    }
-}
 
 // What follows a list of a table.
 pub fn behind_list(part: Part) -> TablePhase
@@ -53,7 +33,7 @@ pub fn behind_list(part: Part) -> TablePhase
 
 impl Seen {
     fn add_table(&mut self, table: TableName) -> Result<(), Fault>
-        ensures { MatchResult result (λ _. seen_of self.new ≡ add_table (table_of table) (seen_of self.old)) (λ f. f ≡ Memory) }
+        ensures { MatchResult result (λ _. seen_of self.new ≡ add_table (entry_of table) (seen_of self.old)) (λ f. f ≡ Memory) }
     {
         self.names.tables.push(table)?;
         Ok(())
@@ -89,8 +69,8 @@ impl Seen {
         ensures { Does (table_name (seen_of self.old) (token_of x.entry)) result self.new }
     {
         let word = word(x)?;
-        let name = fresh(self.names.has_table(word), x.at, word)?;
-        let no = self.names.next_table(x.at)?;
+        let name = fresh(find(&self.names.tables, word).is_some(), x.at, word)?;
+        let no = room(self.names.tables.len(), x.at)?;
         self.add_table(TableName { name, no })?;
         Ok(Phase::InTable(TablePhase::TableOpen))
     }

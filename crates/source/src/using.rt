@@ -1,7 +1,7 @@
 // Fields where they are used.
 ghost use Rattle.std.specs.Prelude.{◌≡◌};
 ghost use Rattle.token.specs.Stands.{token_of};
-ghost use Rattle.source.specs.Names.{header_number, field_number};
+ghost use Rattle.source.specs.Names.{number_of, number_of};
 ghost use Rattle.source.specs.Using.{bare as bare_of, only_if, header_for, field_for, field_named, has_room, has_room_for, past as past_at, behind_name, member as member_at, in_field as in_field_at};
 ghost use Rattle.source.specs.State as state;
 ghost use Rattle.source.specs.Stands.{names_of, seen_of, part_of, purpose_of, in_field_of};
@@ -24,7 +24,7 @@ use token::token::{Sign, Token};
 impl Names {
     // A bare name: `out`, or the one field of that name.
     fn bare(&self, word: &[u8]) -> Option<FieldNo>
-        ensures { field_number result ≡ bare_of (names_of self.now) word.now }
+        ensures { number_of result ≡ bare_of (names_of self.now) word.now }
     {
         if is_out(word) {
             return Some(FieldNo { at: 0 });
@@ -34,14 +34,14 @@ impl Names {
 
     // The header of a name, if it is this one.
     fn this_header(&self, header: HeaderNo, word: &[u8]) -> Option<HeaderNo>
-        ensures { header_number result ≡ header_for (state.By header.at) (names_of self.now) word.now }
+        ensures { number_of result ≡ header_for (state.By header.at) (names_of self.now) word.now }
     {
         self.header(word).filter(|found| found.at == header.at)
     }
 
     // The header that a name stands for: in `by` only the choosing one.
     fn header_for(&self, purpose: Purpose, word: &[u8]) -> Option<HeaderNo>
-        ensures { header_number result ≡ header_for (purpose_of purpose) (names_of self.now) word.now }
+        ensures { number_of result ≡ header_for (purpose_of purpose) (names_of self.now) word.now }
     {
         match purpose {
             Purpose::By(header) => self.this_header(header, word),
@@ -51,7 +51,7 @@ impl Names {
 
     // The field that a bare name stands for: in `by` only one of the choosing header.
     fn field_for(&self, purpose: Purpose, word: &[u8]) -> Option<FieldNo>
-        ensures { field_number result ≡ field_for (purpose_of purpose) (names_of self.now) word.now }
+        ensures { number_of result ≡ field_for (purpose_of purpose) (names_of self.now) word.now }
     {
         match purpose {
             Purpose::By(header) => field(&self.fields, header, word),
@@ -152,7 +152,7 @@ impl Seen {
         at: usize,
         x: Token<'_>,
     ) -> Result<Phase, Fault>
-        ensures { Does (behind_name (purpose_of purpose) (header_number header) (field_number field) at (seen_of self.old) (token_of x.entry)) result self.new }
+        ensures { Does (behind_name (purpose_of purpose) (number_of header) (number_of field) at (seen_of self.old) (token_of x.entry)) result self.new }
     {
         if is_sign(x, Sign::Dot) {
             let header = header.ok_or(Fault::Name { at })?;

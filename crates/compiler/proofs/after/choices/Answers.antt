@@ -1,6 +1,6 @@
 use Rattle.std.proofs.Common.{vec_items, ap}
 use Rattle.packet.specs.Header as packet
-use Rattle.source.specs.Names.{headers_of}
+use Rattle.source.specs.Names.{entries_of}
 use Rattle.source.specs.Stands.{choices_of as choices_seen}
 use Rattle.compiler.specs.Packaging.{choices_of}
 use Rattle.compiler.proofs.Counting.{picked, passed, all_picked}
@@ -9,7 +9,7 @@ use Rattle.compiler.proofs.after.choices.Goals.{then-choice-number+in_ok-push, e
 
 pub loop-k-preserved : goal.loop-k-preserved
 loop-k-preserved c =
-    let hs = headers_of c.args.headers.now in
+    let hs = entries_of c.args.headers.now in
     let all = choices_of hs c.args.number (choices_seen c.args.chosen.now) in
     elim c.if-choice-number.branch [
       | then-choice-number+in_ok-push w ↦
@@ -24,6 +24,6 @@ loop-k-preserved c =
 
 pub returns : goal.returns
 returns c =
-    let hs = headers_of c.args.headers.now in
+    let hs = entries_of c.args.headers.now in
     all_picked hs c.args.number c.args.chosen.now c.loop-k.k (vec_items c.loop-k.choices) (choices_of hs c.args.number (choices_seen c.args.chosen.now))
     c.loop-k-test.false c.loop-k.invariant

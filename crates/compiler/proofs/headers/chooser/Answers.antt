@@ -1,9 +1,9 @@
 use Rattle.std.proofs.Common.{◌<◌, length, None, sym, rules}
 use Rattle.std.proofs.lemmas.List.{get_or-map}
-use Rattle.source.specs.Names.{field_number}
+use Rattle.source.specs.Names.{number_of}
 use Rattle.compiler.proofs.headers.chooser.Goals as goal
 
 pub returns : goal.returns
 returns c =
     let h : c.args.number < length c.args.by = search rules in
-    sym (get_or-map field_number c.args.by c.args.number c.index-by-number.result None h)
+    sym (get_or-map number_of c.args.by c.args.number c.index-by-number.result None h)

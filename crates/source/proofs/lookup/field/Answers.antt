@@ -1,12 +1,11 @@
-use Rattle.std.proofs.Common.{sym, ◌∙◌}
-use Rattle.source.proofs.Finding.{in_hit, in_miss, in_end}
+use Rattle.std.proofs.Common.{MatchOption, length, rules}
+use Rattle.source.proofs.Finding.{NoneBelow, FirstAt, found_in}
 use Rattle.source.proofs.lookup.field.Goals as goal
 
-pub loop-k-preserved : goal.loop-k-preserved
-loop-k-preserved c = in_miss c.args.fields.now c.args.header.at c.args.word.now c.loop-k.k c.index-fields-k.result c.loop-k-test.true c.index-fields-k.is c.if-is_of.ensures ∙ c.loop-k.invariant
-
-pub returns-then-is_of : goal.returns-then-is_of
-returns-then-is_of c = sym (in_hit c.args.fields.now c.args.header.at c.args.word.now c.loop-k.k c.index-fields-k.result c.loop-k-test.true c.index-fields-k.is c.if-is_of.ensures) ∙ c.loop-k.invariant
-
 pub returns : goal.returns
-returns c = sym (in_end c.args.fields.now c.args.header.at c.args.word.now c.loop-k.k c.loop-k-test.false) ∙ c.loop-k.invariant
+returns c =
+    let fs = c.args.fields.now in
+    let h = c.args.header.at in
+    let w = c.args.word.now in
+    let m : MatchOption c.map.result (NoneBelow h w fs (length fs)) (FirstAt h w fs) = search rules in
+    found_in fs h w c.map.result m
