@@ -1,5 +1,7 @@
 // Which header comes next.
-ghost use Rattle.std.specs.Prelude.{◌≡◌, ◌<◌, true};
+ghost use Rattle.std.specs.Prelude.{◌≡◌, ◌<◌, true, ◌==◌};
+ghost use Rattle.std.specs.List.{find};
+ghost use Rattle.program.specs.declared.headers.Choice.{Choice};
 ghost use Rattle.packet.specs.Header.{chosen as chosen_in, comes as comes_in};
 ghost use Rattle.packet.specs.Stands.{fields_of, next_of, choices_of, header_of};
 
@@ -27,14 +29,18 @@ pub fn behind(header: &Header, fields: &Fields) -> Follow
     }
 }
 
-// The first choice with this value; none is the end.
+// What the first choice with this value says; none is the end.
 fn chosen(choices: &[Choice], value: u32) -> Follow
     ensures { next_of result ≡ chosen_in (choices_of choices.now) value }
 {
-    for k in 0..choices.len() {
-        if choices[k].value == value {
-            return choices[k].next;
-        }
+    match first(choices, value) {
+        Some(choice) => choice.next,
+        None => Follow::End,
     }
-    Follow::End
+}
+
+fn first(choices: &[Choice], value: u32) -> Option<Choice>
+    ensures { result ≡ find (λ (c : Choice). c.value == value) choices.now }
+{
+    choices.iter().copied().find(|choice| choice.value == value)
 }

@@ -3,7 +3,7 @@ use Rattle.std.proofs.lemmas.List.{take_rest, length-drop}
 use Rattle.packet.specs.Header.{Widths, size}
 use Rattle.packet.specs.Stands.{widths_of, fields_of, header_of}
 use Rattle.packet.proofs.Reading.{read_rest, left_behind}
-use Rattle.packet.proofs.parser.read.Goals as goal
+use Rattle.packet.proofs.format.Format.read.Goals as goal
 
 pub returns-then-left-taken : goal.returns-then-left-taken
 returns-then-left-taken c =
@@ -17,7 +17,7 @@ returns-then-left-taken c =
 
 pub returns : goal.returns
 returns c =
-    let W : Widths = widths_of c.args.widths.now in
+    let W : Widths = widths_of c.args.self.now.widths.now in
     let bs : List ℕ = c.args.bytes.now in
     let at : ℕ = c.args.progress.now.at in
     let rest : take (length bs - at) (drop at bs) ≡ drop at bs = take_rest bs at in

@@ -3,15 +3,15 @@ use Rattle.std.proofs.lemmas.Nat.{one_shl, shr_below, mod_below, pow_pos}
 use Rattle.packet.specs.Bits.{bits_of, bits_of_number}
 use Rattle.packet.proofs.Numbers.{bits_join, join_below}
 use Rattle.packet.proofs.Writing.{flush}
-use Rattle.packet.proofs.cursor.put.Goals as goal
+use Rattle.packet.proofs.cursor.Cursor.put.Goals as goal
 
 pub loop-held-init : goal.loop-held-init
 loop-held-init c =
     let narrow : c.args.width < 64 = omega (arith, c.requires.narrow) in
-    let P : ℕ → Type 0 = λ s. c.args.cursor.waiting * s + c.args.value % s < 2 ^ (c.args.cursor.held + c.args.width) in (
+    let P : ℕ → Type 0 = λ s. c.args.self.waiting * s + c.args.value % s < 2 ^ (c.args.self.held + c.args.width) in (
       refl,
-      subst P (sym (one_shl c.args.width 64 narrow)) (join_below c.args.cursor.waiting c.args.value c.args.cursor.held c.args.width c.requires.small),
-      omega (arith, c.requires.few, c.requires.narrow),
+      subst P (sym (one_shl c.args.width 64 narrow)) (join_below c.args.self.waiting c.args.value c.args.self.held c.args.width c.args.self.small),
+      omega (arith, c.args.self.few, c.requires.narrow),
       refl,
     )
 
@@ -37,16 +37,17 @@ loop-held-preserved c =
       omega (arith, c.loop-held.invariant.3, c.loop-held-test.true),
     )
 
+pub invariant_of-result : goal.invariant_of-result
+invariant_of-result c = record { few = c.loop-held-test.false; small = c.loop-held.invariant.1 }
+
 pub returns : goal.returns
 returns c =
     let narrow : c.args.width < 64 = omega (arith, c.requires.narrow) in
-    let front : List ℕ = bits_of (take c.args.cursor.at c.args.out.now) in
+    let front : List ℕ = bits_of (take c.args.self.at c.args.out.now) in
     record {
       bits =
           c.loop-held.invariant.0
-          ∙ ap (λ (s : ℕ). front ++ bits_of_number (c.args.cursor.held + c.args.width) (c.args.cursor.waiting * s + c.args.value % s)) (one_shl c.args.width 64 narrow)
-          ∙ ap (λ (l : List ℕ). front ++ l) (bits_join c.args.cursor.held c.args.width c.args.cursor.waiting c.args.value);
-      few = c.loop-held-test.false;
-      small = c.loop-held.invariant.1;
+          ∙ ap (λ (s : ℕ). front ++ bits_of_number (c.args.self.held + c.args.width) (c.args.self.waiting * s + c.args.value % s)) (one_shl c.args.width 64 narrow)
+          ∙ ap (λ (l : List ℕ). front ++ l) (bits_join c.args.self.held c.args.width c.args.self.waiting c.args.value);
       count = omega (arith, c.loop-held.invariant.3);
     }

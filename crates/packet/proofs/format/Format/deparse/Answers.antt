@@ -3,11 +3,11 @@ use Rattle.std.proofs.lemmas.List.{length-append}
 use Rattle.packet.specs.Deparsing.{write_headers}
 use Rattle.packet.specs.Stands.{widths_of, fields_of, headers_of, present_of}
 use Rattle.packet.proofs.Writing.{pastes}
-use Rattle.packet.proofs.deparser.deparse.Goals as goal
+use Rattle.packet.proofs.format.Format.deparse.Goals as goal
 
 pub returns-then-out-end : goal.returns-then-out-end
 returns-then-out-end c =
-    let head : List ℕ = write_headers (widths_of c.args.widths.now) (headers_of c.args.headers.now) 0 (present_of c.args.present) (fields_of c.args.fields.now) in
+    let head : List ℕ = write_headers (widths_of c.args.self.now.widths.now) (headers_of c.args.self.now.headers.now) 0 (present_of c.args.present) (fields_of c.args.fields.now) in
     record {
       writes = refl;
       counts = omega (arith, c.if-out-end.true, c.size_of_present-head.ensures.value (fields_of c.args.fields.now), length-append head c.args.payload.now);
@@ -17,7 +17,7 @@ returns-then-out-end c =
 
 pub returns : goal.returns
 returns c =
-    let head : List ℕ = write_headers (widths_of c.args.widths.now) (headers_of c.args.headers.now) 0 (present_of c.args.present) (fields_of c.args.fields.now) in
+    let head : List ℕ = write_headers (widths_of c.args.self.now.widths.now) (headers_of c.args.self.now.headers.now) 0 (present_of c.args.present) (fields_of c.args.fields.now) in
     let payload : List ℕ = c.args.payload.now in
     let n : ℕ = c.size_of_present-head.result in
     let is : n ≡ length head = c.size_of_present-head.ensures.value (fields_of c.args.fields.now) in

@@ -1,6 +1,6 @@
 use Rattle.std.proofs.Common.{◌≡◌, ◌+◌, ◌*◌, ◌^◌, ◌<◌, ◌++◌, take}
 use Rattle.packet.specs.Bits.{bits_of, bits_of_number}
-use Rattle.packet.proofs.cursor.put.Given as goal
+use Rattle.packet.proofs.cursor.Cursor.put.Given as goal
 
 -- the bits stay the same, written or waiting
 abbrev pub invariant-loop-held : goal.invariant-loop-held

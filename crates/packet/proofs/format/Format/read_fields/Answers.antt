@@ -6,20 +6,20 @@ use Rattle.packet.specs.Header.{Widths}
 use Rattle.packet.specs.Parsing.{read_fields}
 use Rattle.packet.specs.Stands.{widths_of, fields_of}
 use Rattle.packet.proofs.Reading.{bit_count_more, fields_more, fields_end, put_is}
-use Rattle.packet.proofs.parser.read_fields.Goals as goal
+use Rattle.packet.proofs.format.Format.read_fields.Goals as goal
 
 pub number_at-requires : goal.number_at-requires
 number_at-requires c =
     let end : ℕ = c.args.header.now.from + c.args.header.now.fields in
     record {
-      narrow = c.args.widths.now.narrow c.loop-field.field;
+      narrow = c.args.self.now.widths.now.narrow c.loop-field.field;
       short = c.requires.short;
-      within = omega (arith, bit_count_more (widths_of c.args.widths.now) end c.loop-field.field c.loop-field-test.true, c.loop-field.invariant.1);
+      within = omega (arith, bit_count_more (widths_of c.args.self.now.widths.now) end c.loop-field.field c.loop-field-test.true, c.loop-field.invariant.1);
     }
 
 pub loop-field-preserved : goal.loop-field-preserved
 loop-field-preserved c =
-    let W : Widths = widths_of c.args.widths.now in
+    let W : Widths = widths_of c.args.self.now.widths.now in
     let f : ℕ = c.loop-field.field in
     let at : ℕ = c.loop-field.at in
     let end : ℕ = c.args.header.now.from + c.args.header.now.fields in
@@ -37,5 +37,5 @@ loop-field-preserved c =
 pub returns : goal.returns
 returns c =
     let end : ℕ = c.args.header.now.from + c.args.header.now.fields in
-    sym (fields_end (widths_of c.args.widths.now) end c.loop-field.field (drop c.loop-field.at (bits_of c.args.bytes.now)) (fields_of c.loop-field.fields) c.loop-field-test.false)
+    sym (fields_end (widths_of c.args.self.now.widths.now) end c.loop-field.field (drop c.loop-field.at (bits_of c.args.bytes.now)) (fields_of c.loop-field.fields) c.loop-field-test.false)
     ∙ c.loop-field.invariant.0
