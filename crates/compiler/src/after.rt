@@ -6,24 +6,20 @@ ghost use Rattle.source.specs.Stands.{next_of, choices_of as choices_seen};
 ghost use Rattle.compiler.specs.Packaging.{follow as follow_in, choices_of, chooser, if_after};
 
 use program::field::FieldNo;
-use program::headers::{After, Choice, Follow, HeaderNo};
+use program::headers::{After, Choice, HeaderNo};
 use source::lookup::header;
 use source::name::HeaderName;
 use source::seen::{Choice as Chosen, Next};
 use std::alloc::{AllocError, Global};
 
 // What a choice names.
-fn follow(headers: &[HeaderName], next: Next) -> Follow
+fn follow(headers: &[HeaderName], next: Next) -> Option<HeaderNo>
     ensures { follow_of result ≡ follow_in (headers_of headers.now) (next_of next) }
 {
     match next {
-        Next::Ends => Follow::End,
-        Next::Header(no) => Follow::Header(no),
-        Next::Later { name, at: _ } => match header(headers, name.word()) {
-            Some(no) => Follow::Header(no),
-            None => Follow::End,
-        },
-        Next::Never { at: _ } => Follow::End,
+        Next::Header(no) => Some(no),
+        Next::Later { name, at: _ } => header(headers, name.word()),
+        Next::Ends | Next::Never { at: _ } => None,
     }
 }
 

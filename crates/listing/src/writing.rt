@@ -5,7 +5,7 @@ ghost use Rattle.listing.specs.Stands.{names_of, texts_of};
 ghost use Rattle.listing.specs.Listing.{operand_text, test_text, does_text, line_of, listed};
 
 use crate::names::Names;
-use program::action::{Operand, Test};
+use program::action::{Action, Operand, Test};
 use program::node::{Does, Node};
 use std::alloc::{AllocError, Global};
 
@@ -27,25 +27,7 @@ fn line_of(heap: Global, names: &Names, at: usize, node: Node) -> Result<String,
 {
     match node.does {
         Does::Halt => halt_line(heap, at),
-        Does::Set(_) => stage_line(
-            heap,
-            at,
-            node.stage,
-            does_text(heap, names, node.does)?.as_str(),
-        ),
-        Does::Add(_) => stage_line(
-            heap,
-            at,
-            node.stage,
-            does_text(heap, names, node.does)?.as_str(),
-        ),
-        Does::Look(_) => stage_line(
-            heap,
-            at,
-            node.stage,
-            does_text(heap, names, node.does)?.as_str(),
-        ),
-        Does::Ask(_) => stage_line(
+        Does::Act { .. } | Does::Look { .. } | Does::Ask { .. } => stage_line(
             heap,
             at,
             node.stage,
@@ -71,27 +53,32 @@ fn does_text(heap: Global, names: &Names, does: Does) -> Result<String, AllocErr
 {
     match does {
         Does::Halt => Ok(String::new(heap)),
-        Does::Set(change) => {
-            let field = name(&names.fields, change.field.at);
-            let operand = operand_text(heap, names, change.operand)?;
-            let next = change.next;
+        Does::Act {
+            action: Action::Set(field, operand),
+            next,
+        } => {
+            let field = name(&names.fields, field.at);
+            let operand = operand_text(heap, names, operand)?;
             format!(in heap; "set {field} = {operand} then {next}")
         }
-        Does::Add(change) => {
-            let field = name(&names.fields, change.field.at);
-            let operand = operand_text(heap, names, change.operand)?;
-            let next = change.next;
+        Does::Act {
+            action: Action::Add(field, operand),
+            next,
+        } => {
+            let field = name(&names.fields, field.at);
+            let operand = operand_text(heap, names, operand)?;
             format!(in heap; "add {field} = {operand} then {next}")
         }
-        Does::Look(lookup) => {
-            let table = name(&names.tables, lookup.table.at);
-            let next = lookup.next;
+        Does::Look { table, next } => {
+            let table = name(&names.tables, table.at);
             format!(in heap; "apply {table} then {next}")
         }
-        Does::Ask(question) => {
-            let test = test_text(heap, names, question.test)?;
-            let passed = question.passed;
-            let failed = question.failed;
+        Does::Ask {
+            test,
+            passed,
+            failed,
+        } => {
+            let test = test_text(heap, names, test)?;
             format!(in heap; "if {test} then {passed} else {failed}")
         }
     }

@@ -3,8 +3,7 @@ use Rattle.std.specs.Prelude.{ℕ, ◌/◌, ◌%◌, ◌^◌, Bool, List, [], ma
 use Rattle.model.specs.Packet.{Packet}
 use Rattle.program.specs.declared.field.Fields.{Fields}
 use Rattle.program.specs.declared.field.Widths.{Widths}
-use Rattle.program.specs.declared.headers.Follow.{Follow}
-use Rattle.program.specs.declared.headers.Follow.TheVariants as follow
+use Rattle.program.specs.Stands.{HeaderNo, bits_of}
 use Rattle.program.specs.declared.headers.Choice.{Choice}
 use Rattle.program.specs.declared.headers.After.{After}
 use Rattle.program.specs.declared.headers.Header.{Header}
@@ -17,7 +16,7 @@ use Rattle.packet.specs.declared.parsed.Refused.{Refused}
 
 -- the bits of each field; a field past the last has none
 abbrev pub widths_of : Widths → model.Widths
-widths_of w field = slice_index w.bits field
+widths_of w field = slice_index (bits_of w) field
 
 -- the values of fields; one past the last is 0
 abbrev pub fields_of : Fields → Packet
@@ -27,9 +26,9 @@ fields_of x field = slice_index x.of field
 abbrev pub present_of : ℕ → ℕ → Bool
 present_of present number = present / 2 ^ number % 2 == 1
 
-abbrev pub next_of : Follow → model.Next
-next_of follow.End = model.End
-next_of (follow.Header n) = model.Then n.at
+abbrev pub next_of : Option HeaderNo → model.Next
+next_of None = model.End
+next_of (Some n) = model.Then n.at
 
 abbrev pub choice_of : Choice → model.Choice
 choice_of c = record { value = c.value; next = next_of c.next }

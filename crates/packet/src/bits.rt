@@ -2,17 +2,18 @@
 ghost use Rattle.std.specs.Prelude.{◌≡◌, ◌+◌, ◌*◌, ◌≤◌, length, take, drop};
 ghost use Rattle.packet.specs.Bits.{bits_of, number_of};
 
-// The number that the bits from `at` on stand for, as many as `width`.
-pub fn number_at(bytes: &[u8], at: usize, width: u8) -> u32
-    requires narrow { width ≤ 32 }
+use program::field::Width;
+
+// The number that the bits from `at` on stand for, as many as a field has.
+pub fn number_at(bytes: &[u8], at: usize, width: Width) -> u32
     requires short { length bytes.now ≤ 2048 }
-    requires within { at + width ≤ 8 * length bytes.now }
-    ensures { result ≡ number_of (take width (drop at (bits_of bytes.now))) }
+    requires within { at + width.bits ≤ 8 * length bytes.now }
+    ensures { result ≡ number_of (take width.bits (drop at (bits_of bytes.now))) }
 {
-    let end = at + width as usize;
+    let end = at + width.bits as usize;
     let last = (end + 7) / 8;
     let touched = joined(&bytes[at / 8..last]);
-    ((touched >> (8 * last - end)) % (1u64 << width)) as u32
+    ((touched >> (8 * last - end)) % (1u64 << width.bits)) as u32
 }
 
 // At most five bytes as one number.

@@ -6,37 +6,32 @@ ghost use Rattle.packet.specs.Header.{chosen as chosen_in, comes as comes_in};
 ghost use Rattle.packet.specs.Stands.{fields_of, next_of, choices_of, header_of};
 
 use program::field::Fields;
-use program::headers::{Choice, Follow, Header};
+use program::headers::{Choice, Header, HeaderNo};
 
 // Whether the header that comes next is this one.
-pub fn comes(next: Follow, number: usize) -> bool
+pub fn comes(next: Option<HeaderNo>, number: usize) -> bool
     ensures value { result ≡ comes_in (next_of next) number }
     ensures within { result ≡ true → number < 8 }
 {
     match next {
-        Follow::End => false,
-        Follow::Header(n) => n.at as usize == number,
+        Some(header) => header.at as usize == number,
+        None => false,
     }
 }
 
 // What comes behind a header, by the value of its choosing field.
-pub fn behind(header: &Header, fields: &Fields) -> Follow
+pub fn behind(header: &Header, fields: &Fields) -> Option<HeaderNo>
     ensures { next_of result ≡ chosen_in (header_of header.now).choices (fields_of fields.now (header_of header.now).by) }
 {
-    match &header.after {
-        Some(after) => chosen(&after.choices, fields.of[after.field.at as usize]),
-        None => Follow::End,
-    }
+    let after = header.after.as_ref()?;
+    chosen(&after.choices, fields.of[after.field.at as usize])
 }
 
 // What the first choice with this value says; none is the end.
-fn chosen(choices: &[Choice], value: u32) -> Follow
+fn chosen(choices: &[Choice], value: u32) -> Option<HeaderNo>
     ensures { next_of result ≡ chosen_in (choices_of choices.now) value }
 {
-    match first(choices, value) {
-        Some(choice) => choice.next,
-        None => Follow::End,
-    }
+    first(choices, value)?.next
 }
 
 fn first(choices: &[Choice], value: u32) -> Option<Choice>

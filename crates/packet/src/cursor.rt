@@ -2,6 +2,8 @@
 ghost use Rattle.std.specs.Prelude.{◌≡◌, ◌+◌, ◌*◌, ◌^◌, ◌<◌, ◌≤◌, ◌++◌, length, take};
 ghost use Rattle.packet.specs.Bits.{bits_of, bits_of_number};
 
+use program::field::Width;
+
 // The bytes before `at` are whole, and the bits that wait are the lowest `held` of `waiting`.
 #[derive(Clone, Copy)]
 pub(crate) struct Cursor {
@@ -26,16 +28,15 @@ impl Cursor {
         }
     }
 
-    // The lowest bits of a value, as many as `width`, follow the bits that wait; whole bytes are written.
-    pub(crate) fn put(self, out: &mut [u8], value: u32, width: u8) -> Cursor
-        requires narrow { width ≤ 32 }
-        requires room { 8 * self.at + self.held + width ≤ 8 * length out.old }
-        ensures bits { bits_of (take result.at out.new) ++ bits_of_number result.held result.waiting ≡ bits_of (take self.at out.old) ++ (bits_of_number self.held self.waiting ++ bits_of_number width value) }
-        ensures count { 8 * result.at + result.held ≡ 8 * self.at + self.held + width }
+    // The lowest bits of a value, as many as a field has, follow the bits that wait; whole bytes are written.
+    pub(crate) fn put(self, out: &mut [u8], value: u32, width: Width) -> Cursor
+        requires room { 8 * self.at + self.held + width.bits ≤ 8 * length out.old }
+        ensures bits { bits_of (take result.at out.new) ++ bits_of_number result.held result.waiting ≡ bits_of (take self.at out.old) ++ (bits_of_number self.held self.waiting ++ bits_of_number width.bits value) }
+        ensures count { 8 * result.at + result.held ≡ 8 * self.at + self.held + width.bits }
     {
         let mut at = self.at;
-        let mut held = self.held + width;
-        let mut waiting = self.waiting * (1u64 << width) + value as u64 % (1u64 << width);
+        let mut held = self.held + width.bits;
+        let mut waiting = self.waiting * (1u64 << width.bits) + value as u64 % (1u64 << width.bits);
         while held >= 8 {
             held -= 8;
             out[at] = (waiting >> held) as u8;

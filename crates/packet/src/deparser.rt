@@ -7,7 +7,7 @@ ghost use Rattle.packet.specs.Stands.{fields_of, present_of, header_of, holding,
 use crate::cursor::Cursor;
 use crate::format::Format;
 use crate::presence::has;
-use program::field::Fields;
+use program::field::{FieldNo, Fields};
 use program::headers::Header;
 
 // The place for the bytes is too short for them.
@@ -63,7 +63,7 @@ impl Format<'_> {
             cursor = cursor.put(
                 out,
                 fields.of[field as usize],
-                self.widths.bits[field as usize],
+                self.widths.get(FieldNo { at: field }),
             );
         }
         if cursor.held > 0 {

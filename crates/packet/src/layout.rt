@@ -7,6 +7,7 @@ ghost use Rattle.packet.specs.Stands.{header_of, present_of, widths_in, headers_
 
 use crate::format::Format;
 use crate::presence::has;
+use program::field::FieldNo;
 use program::headers::Header;
 
 impl Format<'_> {
@@ -17,7 +18,7 @@ impl Format<'_> {
     {
         let mut bits = 0usize;
         for field in header.from..header.from + header.fields {
-            bits += self.widths.bits[field as usize] as usize;
+            bits += self.widths.get(FieldNo { at: field }).bits as usize;
         }
         bits.div_ceil(8)
     }

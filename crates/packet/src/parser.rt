@@ -11,15 +11,15 @@ use crate::choosing::{behind, comes};
 use crate::format::Format;
 use crate::parsed::{Parsed, Refused};
 use crate::presence::with;
-use program::field::Fields;
-use program::headers::{Follow, Header};
+use program::field::{FieldNo, Fields};
+use program::headers::{Header, HeaderNo};
 
 // How far a packet has been taken apart: what was read, what comes next, and the first byte that is left.
 #[derive(Clone, Copy)]
 struct Progress {
     fields: Fields,
     present: u8,
-    next: Follow,
+    next: Option<HeaderNo>,
     at: usize,
 }
 
@@ -38,7 +38,7 @@ impl Format<'_> {
         let mut progress = Progress {
             fields: Fields { of: [0; 64] },
             present: 0,
-            next: Follow::Header(self.headers.first),
+            next: Some(self.headers.first),
             at: 0,
         };
         for (number, header) in self.headers.all.iter().enumerate() {
@@ -89,9 +89,9 @@ impl Format<'_> {
     {
         let mut at = 0usize;
         for field in header.from..header.from + header.fields {
-            let width = self.widths.bits[field as usize];
+            let width = self.widths.get(FieldNo { at: field });
             fields.of[field as usize] = number_at(bytes, at, width);
-            at += width as usize;
+            at += width.bits as usize;
         }
     }
 }

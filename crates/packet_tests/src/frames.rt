@@ -33,7 +33,7 @@ fn goes_through(
     payload: usize,
 ) -> Result<Fields, Fail> {
     let headers = headers(heap)?;
-    let widths = widths();
+    let widths = widths()?;
     let format = Format {
         headers: &headers,
         widths: &widths,
@@ -107,7 +107,7 @@ fn arp(rt: HostRuntime) -> Result<(), Fail> {
 #[test]
 fn refused(rt: HostRuntime) -> Result<(), Fail> {
     let headers = headers(rt.alloc())?;
-    let widths = widths();
+    let widths = widths()?;
     let format = Format {
         headers: &headers,
         widths: &widths,

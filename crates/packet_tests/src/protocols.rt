@@ -1,13 +1,14 @@
 // Ethernet, 802.1Q, IPv4 and UDP as a switch program declares them. An address of 48 bits is two fields.
-use program::field::{FieldNo, Widths};
-use program::headers::{After, Choice, Follow, Header, HeaderNo, Headers};
+use program::field::{FieldNo, Width, Widths};
+use program::headers::{After, Choice, Header, HeaderNo, Headers};
 use std::alloc::{AllocError, Global};
+use std::test::Fail;
 
-const TAG: Follow = Follow::Header(HeaderNo { at: 1 });
+const TAG: Option<HeaderNo> = Some(HeaderNo { at: 1 });
 
-const IPV4: Follow = Follow::Header(HeaderNo { at: 2 });
+const IPV4: Option<HeaderNo> = Some(HeaderNo { at: 2 });
 
-const UDP: Follow = Follow::Header(HeaderNo { at: 3 });
+const UDP: Option<HeaderNo> = Some(HeaderNo { at: 3 });
 
 pub fn headers(heap: Global) -> Result<Headers, AllocError> {
     let ethernet = Header {
@@ -45,18 +46,20 @@ pub fn headers(heap: Global) -> Result<Headers, AllocError> {
     })
 }
 
-fn choice(value: u32, next: Follow) -> Choice {
+fn choice(value: u32, next: Option<HeaderNo>) -> Choice {
     Choice { value, next }
 }
 
 // The widths of the fields, a byte each: of `out`; of Ethernet's destination, source and type; of the tag's priority, drop eligibility, network and
 // type; of IPv4's version, header length, service, congestion, length, identification, flags, fragment, time to live, protocol, checksum,
 // source and destination; and of UDP's source, destination, length and checksum. The other fields have none.
-pub fn widths() -> Widths {
-    Widths {
-        bits: *b"\x08\x10\x20\x10\x20\x10\x03\x01\x0c\x10\
-            \x04\x04\x06\x02\x10\x10\x03\x0d\x08\x08\x10\x20\x20\x10\x10\x10\x10\
-            \x00\x00\x00\x00\x00\x00\x00\x00\x00\x00\x00\x00\x00\x00\x00\x00\x00\x00\x00\
-            \x00\x00\x00\x00\x00\x00\x00\x00\x00\x00\x00\x00\x00\x00\x00\x00\x00\x00",
+const BITS: &[u8; 27] = b"\x08\x10\x20\x10\x20\x10\x03\x01\x0c\x10\
+    \x04\x04\x06\x02\x10\x10\x03\x0d\x08\x08\x10\x20\x20\x10\x10\x10\x10";
+
+pub fn widths() -> Result<Widths, Fail> {
+    let mut of = [Width { bits: 0 }; 64];
+    for (width, bits) in of.iter_mut().zip(BITS.iter()) {
+        *width = Width::new(*bits).ok_or(Fail::new("too wide"))?;
     }
+    Ok(Widths { of })
 }

@@ -7,7 +7,6 @@ ghost use Rattle.pipeline.specs.Stands.{version_of, transit};
 
 use crate::loaded::Loaded;
 use program::acting::{act, passes};
-use program::action::Action;
 use program::field::Fields;
 use program::node::{Does, Node};
 use table::lookup::apply;
@@ -19,10 +18,7 @@ pub(crate) fn works_on(node: Node, stage: u16) -> bool
 {
     match node.does {
         Does::Halt => false,
-        Does::Set(_) => node.stage == stage,
-        Does::Add(_) => node.stage == stage,
-        Does::Look(_) => node.stage == stage,
-        Does::Ask(_) => node.stage == stage,
+        Does::Act { .. } | Does::Look { .. } | Does::Ask { .. } => node.stage == stage,
     }
 }
 
@@ -40,33 +36,18 @@ pub(crate) fn go(
 {
     match does {
         Does::Halt => at,
-        Does::Set(change) => {
-            act(
-                fields,
-                &loaded.declarations,
-                Action::Set(change.field, change.operand),
-            );
-            change.next
+        Does::Act { action, next } => {
+            act(fields, &loaded.declarations, action);
+            next
         }
-        Does::Add(change) => {
-            act(
-                fields,
-                &loaded.declarations,
-                Action::Add(change.field, change.operand),
-            );
-            change.next
+        Does::Look { table, next } => {
+            apply(fields, seen, &loaded.declarations, tables, table, newest);
+            next
         }
-        Does::Look(lookup) => {
-            let declarations = &loaded.declarations;
-            apply(fields, seen, declarations, tables, lookup.table, newest);
-            lookup.next
-        }
-        Does::Ask(question) => {
-            if passes(fields, question.test) {
-                question.passed
-            } else {
-                question.failed
-            }
-        }
+        Does::Ask {
+            test,
+            passed,
+            failed,
+        } => { if passes(fields, test) { passed } else { failed } }
     }
 }

@@ -10,7 +10,7 @@ use Rattle.model.specs.Stopping.{Verdict, Refused, Lowest, None, verdict, placem
 use Rattle.model.proofs.Stops.{stopping_is_the_rule}
 use Rattle.program.specs.declared.action.Action.{Action}
 use Rattle.program.specs.declared.action.Test.{Test}
-use Rattle.program.specs.declared.field.TableNo.{TableNo}
+use Rattle.program.specs.Stands.{TableNo}
 use Rattle.program.specs.declared.node.Node.{Node}
 use Rattle.program.specs.Stands.{test_of, action_of, node_of, nodes_of}
 use Rattle.placement.specs.declared.branch.Point.{Point}

@@ -4,7 +4,7 @@ use Rattle.model.specs.Node as node
 use Rattle.model.specs.Statements.{Statement, paths_at, program_of}
 use Rattle.model.specs.Stopping.{Refused, Lowest, None, verdict, placement}
 use Rattle.program.specs.declared.action.Action.{Action}
-use Rattle.program.specs.declared.field.TableNo.{TableNo}
+use Rattle.program.specs.Stands.{TableNo}
 use Rattle.program.specs.declared.node.Node.{Node}
 use Rattle.program.specs.Stands.{test_of, node_of, nodes_of}
 use Rattle.placement.specs.declared.Fault.{Fault}

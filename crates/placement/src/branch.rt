@@ -5,7 +5,7 @@ ghost use Rattle.program.specs.Stands.{test_of, node_of};
 ghost use Rattle.placement.specs.Points.{behind_change, behind_branch};
 
 use program::action::Test;
-use program::node::{Does, Node, Question};
+use program::node::{Does, Node};
 
 // At which statement a path goes on, the stage of the node before on it, and whether something was changed on that stage.
 #[derive(Clone, Copy)]
@@ -47,14 +47,13 @@ impl Branch {
         requires { (self.node < no_node) × (no_node ≤ 512) }
         ensures { node_of result ≡ nodes.node self.no.stage (nodes.Ask (test_of self.test) (self.node + 1) no_node) }
     {
-        let question = Question {
-            test: self.test,
-            passed: (self.node + 1) as u16,
-            failed: no_node as u16,
-        };
         Node {
             stage: self.no.stage,
-            does: Does::Ask(question),
+            does: Does::Ask {
+                test: self.test,
+                passed: (self.node + 1) as u16,
+                failed: no_node as u16,
+            },
         }
     }
 }

@@ -68,7 +68,7 @@ fn is_table_on(node: Node, stage: u16) -> bool
     ensures { result ≡ (node.stage == stage && looks (does_of node.does)) }
 {
     match node.does {
-        Does::Look(_) => node.stage == stage,
+        Does::Look { .. } => node.stage == stage,
         _ => false,
     }
 }

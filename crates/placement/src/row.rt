@@ -1,8 +1,7 @@
 // One node more in the row.
 ghost use Rattle.std.specs.Prelude.{◌≡◌, ◌+◌, ◌<◌, ◌≤◌, [], ◌∷◌, ◌++◌, length, vec_len, MatchResult};
-ghost use Rattle.model.specs.Node as nodes;
 ghost use Rattle.model.specs.Placement.{table_from};
-ghost use Rattle.program.specs.Stands.{action_of, does_of, node_of};
+ghost use Rattle.program.specs.Stands.{node_of};
 ghost use Rattle.placement.specs.Faults.{TooMany};
 ghost use Rattle.placement.specs.Offsets.{lowest_of};
 ghost use Rattle.placement.specs.Rows.{Appended, Low, node_for};
@@ -12,8 +11,7 @@ use crate::branch::Point;
 use crate::offsets::{noted_with, smallest};
 use crate::room::first_with_room;
 use crate::step::{Step, StepKind};
-use program::action::Action;
-use program::node::{Change, Does, Lookup, Node, Question};
+use program::node::{Does, Node};
 
 // The most nodes in a row.
 const MOST: usize = 512;
@@ -72,26 +70,23 @@ fn node_for(kind: StepKind, row: &[Node], point: Point) -> Node
         },
         StepKind::Act { action, .. } => Node {
             stage: first_with_room(row, false, point.stage),
-            does: change(action, next),
+            does: Does::Act { action, next },
         },
         StepKind::Apply { table, .. } => {
             let stage = first_with_room(row, true, table_from(point));
             Node {
                 stage,
-                does: Does::Look(Lookup { table, next }),
+                does: Does::Look { table, next },
             }
         }
-        StepKind::If { test, .. } => {
-            let question = Question {
+        StepKind::If { test, .. } => Node {
+            stage: first_with_room(row, false, point.stage),
+            does: Does::Ask {
                 test,
                 passed: next,
                 failed: 0,
-            };
-            Node {
-                stage: first_with_room(row, false, point.stage),
-                does: Does::Ask(question),
-            }
-        }
+            },
+        },
     }
 }
 
@@ -104,23 +99,5 @@ fn table_from(point: Point) -> u16
         point.stage + 1
     } else {
         point.stage
-    }
-}
-
-// What the node of an action does.
-fn change(action: Action, next: u16) -> Does
-    ensures { does_of result ≡ nodes.Do (action_of action) next }
-{
-    match action {
-        Action::Set(field, operand) => Does::Set(Change {
-            field,
-            operand,
-            next,
-        }),
-        Action::Add(field, operand) => Does::Add(Change {
-            field,
-            operand,
-            next,
-        }),
     }
 }

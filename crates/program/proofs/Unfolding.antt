@@ -7,11 +7,10 @@ use Rattle.model.specs.Statements as statements
 use Rattle.model.specs.Statements.{paths_of_kind, paths_from_each, paths_at}
 use Rattle.program.specs.declared.action.Action.{Action}
 use Rattle.program.specs.declared.action.Test.{Test}
-use Rattle.program.specs.declared.field.TableNo.{TableNo}
 use Rattle.program.specs.declared.statement.Kind.{Kind}
 use Rattle.program.specs.declared.statement.Kind.TheVariants.{Act, Apply, If, Skip}
 use Rattle.program.specs.declared.statement.Statement.{Statement}
-use Rattle.program.specs.Stands.{test_of, action_of, statement_kind_of, statement_of, statements_of}
+use Rattle.program.specs.Stands.{TableNo, test_of, action_of, statement_kind_of, statement_of, statements_of}
 
 each_length : (end : ℕ) (xs : List statements.Statement) → length (paths_from_each end xs) ≡ length xs
 unfolding paths_from_each

@@ -5,7 +5,9 @@ use Rattle.model.specs.Declarations as declarations
 use Rattle.model.specs.Action as action
 use Rattle.model.specs.Statements as statements
 use Rattle.model.specs.Node as node
-use Rattle.program.specs.declared.field.FieldNo.{FieldNo}
+use Rattle.program.specs.declared.field.No.{No}
+use Rattle.program.specs.declared.field.Width.{Width}
+use Rattle.program.specs.declared.field.Widths.{Widths}
 use Rattle.program.specs.declared.field.Fields.{Fields}
 use Rattle.program.specs.declared.action.Operand.{Operand}
 use Rattle.program.specs.declared.action.Operand.TheVariants.{Field, Number}
@@ -21,8 +23,18 @@ use Rattle.program.specs.declared.statement.Kind.{Kind}
 use Rattle.program.specs.declared.statement.Kind.TheVariants as kinds
 use Rattle.program.specs.declared.statement.Statement.{Statement}
 use Rattle.program.specs.declared.node.Does.{Does}
-use Rattle.program.specs.declared.node.Does.TheVariants.{Halt, Set, Add, Look, Ask}
+use Rattle.program.specs.declared.node.Does.TheVariants.{Halt, Act, Look, Ask}
 use Rattle.program.specs.declared.node.Node.{Node}
+
+-- a field, a table, a header
+abbrev pub FieldNo : Type 0
+FieldNo = No 64
+
+abbrev pub TableNo : Type 0
+TableNo = No 32
+
+abbrev pub HeaderNo : Type 0
+HeaderNo = No 8
 
 -- the packet whose first 64 fields are these, and the others those of base
 abbrev pub over : Fields → packet.Packet → packet.Packet
@@ -53,9 +65,13 @@ table_of t = record { kind = kind_of t.kind; looks = numbers_of (vec_items t.loo
 abbrev pub undeclared : declarations.TableDeclaration
 undeclared = record { kind = declarations.Ternary; looks = []; sets = []; lines = 0 }
 
+-- the bits of each field
+abbrev pub bits_of : Widths → List ℕ
+bits_of ws = map (λ (w : Width). w.bits) ws.of
+
 abbrev pub declarations_of : Declarations → declarations.Declarations
 declarations_of d = record {
-  width = λ f. slice_index d.widths.bits f;
+  width = λ f. slice_index (bits_of d.widths) f;
   table = λ n. slice_index_or (map table_of (vec_items d.tables)) n undeclared;
 }
 
@@ -73,10 +89,9 @@ statements_of ss = map statement_of ss
 
 abbrev pub does_of : Does → node.Does
 does_of Halt = node.Halt
-does_of (Set c) = node.Do (action.Set c.field.at (operand_of c.operand)) c.next
-does_of (Add c) = node.Do (action.Add c.field.at (operand_of c.operand)) c.next
-does_of (Look l) = node.Look l.table.at l.next
-does_of (Ask q) = node.Ask (test_of q.test) q.passed q.failed
+does_of (Act a next) = node.Do (action_of a) next
+does_of (Look t next) = node.Look t.at next
+does_of (Ask c passed failed) = node.Ask (test_of c) passed failed
 
 abbrev pub node_of : Node → node.Node
 node_of n = node.node n.stage (does_of n.does)

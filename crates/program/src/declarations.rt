@@ -2,7 +2,7 @@
 use crate::field::{FieldNo, Widths};
 
 // How a table picks among its entries. Ternary: the first whose values agree with the fields on all bits of its masks.
-#[derive(Clone, Copy)]
+#[derive(Clone, Copy, Debug, PartialEq, Eq)]
 pub enum MatchKind {
     Ternary,
 }

@@ -1,27 +1,16 @@
 // Headers of a packet: their fields, and how one chooses the next.
-ghost use Rattle.std.specs.Prelude.{◌+◌, ◌<◌, ◌≤◌};
+ghost use Rattle.std.specs.Prelude.{◌+◌, ◌≤◌};
 
-use crate::field::FieldNo;
+use crate::field::{FieldNo, No};
 
 // A header of a program: one of 8.
-#[derive(Clone, Copy)]
-pub struct HeaderNo {
-    pub at: u8,
-    ghost ok: { at < 8 },
-}
+pub type HeaderNo = No<8>;
 
-// What comes behind a header: another header, or the payload.
-#[derive(Clone, Copy)]
-pub enum Follow {
-    End,
-    Header(HeaderNo),
-}
-
-// What comes if the choosing field has this value.
-#[derive(Clone, Copy)]
+// What comes if the choosing field has this value: another header, or the payload.
+#[derive(Clone, Copy, Debug, PartialEq, Eq)]
 pub struct Choice {
     pub value: u32,
-    pub next: Follow,
+    pub next: Option<HeaderNo>,
 }
 
 // The choosing field, and its choices: the first whose value equals the field's is taken, and none is the end.

@@ -5,6 +5,7 @@ pub mod acting;
 pub mod action;
 pub mod declarations;
 pub mod field;
+mod fields;
 pub mod headers;
 pub mod jumping;
 pub mod node;

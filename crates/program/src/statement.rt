@@ -4,7 +4,7 @@ use crate::field::TableNo;
 
 // An if's yes block is what follows it; `past` statements further begins its no block. At the end of a yes block a skip passes over the no block.
 // Jumps count from the statement that follows, and one past the last statement is the end.
-#[derive(Clone, Copy)]
+#[derive(Clone, Copy, Debug, PartialEq, Eq)]
 pub enum Kind {
     Act(Action),
     Apply(TableNo),
@@ -13,7 +13,7 @@ pub enum Kind {
 }
 
 // A statement, and the offset of its keyword in the source.
-#[derive(Clone, Copy)]
+#[derive(Clone, Copy, Debug, PartialEq, Eq)]
 pub struct Statement {
     pub offset: u32,
     pub kind: Kind,

@@ -1,9 +1,9 @@
 -- Names that are declared, and what they stand for.
 use Rattle.std.specs.Prelude.{ℕ, cond, ◌&&◌, List, [], ◌∷◌, map, take, Some, None, Option, ◌==◌}
 use Rattle.std.specs.Str.{bytes_eq}
-use Rattle.program.specs.declared.field.FieldNo.{FieldNo}
-use Rattle.program.specs.declared.field.TableNo.{TableNo}
-use Rattle.program.specs.declared.headers.HeaderNo.{HeaderNo}
+use Rattle.program.specs.Stands.{FieldNo}
+use Rattle.program.specs.Stands.{TableNo}
+use Rattle.program.specs.Stands.{HeaderNo}
 use Rattle.source.specs.declared.name.Name.{Name}
 use Rattle.source.specs.declared.name.HeaderName.{HeaderName}
 use Rattle.source.specs.declared.name.FieldName.{FieldName}

@@ -1,6 +1,6 @@
 -- What the code's values stand for.
 use Rattle.std.specs.Prelude.{List, map, reverse, Some, None, vec_items, Option}
-use Rattle.program.specs.Stands.{operand_of, test_of, action_of, numbers_of}
+use Rattle.program.specs.Stands.{operand_of, test_of, action_of, bits_of, numbers_of}
 use Rattle.program.specs.Stands as program
 use Rattle.model.specs.Declarations as declarations
 use Rattle.program.specs.declared.declarations.TableDeclaration.{TableDeclaration}
@@ -87,7 +87,7 @@ abbrev pub names_of : Names → state.Names
 names_of n = record {
   headers = headers_of (vec_items n.headers);
   fields = fields_of (vec_items n.fields);
-  widths = n.widths.bits;
+  widths = bits_of n.widths;
   tables = tables_of (vec_items n.tables);
 }
 

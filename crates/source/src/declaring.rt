@@ -1,6 +1,7 @@
 // Headers and their fields.
 ghost use Rattle.std.specs.Prelude.{◌≡◌, ◌+◌, ◌≤◌, length, MatchResult};
 ghost use Rattle.token.specs.Stands.{token_of};
+ghost use Rattle.program.specs.Stands.{FieldNo, HeaderNo};
 ghost use Rattle.source.specs.declared.fault.Fault.TheVariants.{Memory};
 ghost use Rattle.source.specs.Names.{header_of, field_of};
 ghost use Rattle.source.specs.Steps.{room as room_at};
@@ -14,7 +15,7 @@ use crate::lookup::{field, header};
 use crate::name::{FieldName, HeaderName};
 use crate::phase::{HeaderPhase, Phase};
 use crate::seen::{Names, Seen};
-use program::field::FieldNo;
+use program::field::{FieldNo, Width};
 use program::headers::HeaderNo;
 use token::token::{Sign, Token};
 
@@ -90,11 +91,10 @@ impl Seen {
         Ok(())
     }
 
-    pub fn set_width(&mut self, field: FieldNo, bits: u8)
-        requires { bits ≤ 32 }
-        ensures { seen_of self.new ≡ set_width field.at bits (seen_of self.old) }
+    pub fn set_width(&mut self, field: FieldNo, width: Width)
+        ensures { seen_of self.new ≡ set_width field.at width.bits (seen_of self.old) }
     {
-        self.names.widths.bits[field.at as usize] = bits;
+        self.names.widths.set(field, width);
     }
 
     fn header_name(&mut self, x: Token<'_>) -> Result<Phase, Fault>
@@ -142,7 +142,7 @@ impl Seen {
         if width == 0 || width > 32 {
             return Err(Fault::Range { at: x.at });
         }
-        self.set_width(field, width as u8);
+        self.set_width(field, Width { bits: width as u8 });
         Ok(Phase::InHeader(HeaderPhase::FieldEnd {
             header,
             bits: more_bits(bits, width),

@@ -2,6 +2,7 @@
 ghost use Rattle.std.specs.Prelude.{◌≡◌, ℕ, List, is_some};
 ghost use Rattle.std.specs.Borrow.{Bor};
 ghost use Rattle.token.specs.Stands.{token_of, kind_of};
+ghost use Rattle.program.specs.Stands.{FieldNo, HeaderNo, TableNo};
 ghost use Rattle.source.specs.Steps.{place as place_of, is_sign, is_end, number_of, says as says_of, sign as sign_at, keyword as keyword_at, word as word_at, number as number_at, fresh as fresh_at, known as known_at, Step};
 ghost use Rattle.source.specs.Does.{Passes, Gives};
 ghost use Rattle.source.specs.Names.{name_of, header_number, field_number, table_number};

@@ -1,5 +1,6 @@
 // Reading a source, one token after another.
 ghost use Rattle.std.specs.Prelude.{◌≡◌, ◌∷◌, replicate, is_some};
+ghost use Rattle.program.specs.Stands.{bits_of};
 ghost use Rattle.token.specs.Stands.{token_of};
 ghost use Rattle.source.specs.Names.{headers_of};
 ghost use Rattle.source.specs.State.{nothing};
@@ -15,7 +16,7 @@ use crate::name::HeaderName;
 use crate::phase::{BodyPhase, Goal, HeaderPhase, Phase, Purpose, RoutePhase, TablePhase};
 use crate::seen::{Body, Choice, Names, Next, Routes, Seen, Tables};
 use program::action::Operand;
-use program::field::Widths;
+use program::field::{Width, Widths};
 use std::alloc::Global;
 use token::scanner::Scanner;
 use token::token::{Sign, Token};
@@ -51,11 +52,11 @@ fn unnamed(headers: &[HeaderName], choices: &[Choice]) -> Option<usize>
 
 // The widths of the fields before any is declared: `out` has 8 bits.
 fn only_out() -> Widths
-    ensures { result.bits ≡ 8 ∷ replicate 63 0 }
+    ensures { bits_of result ≡ 8 ∷ replicate 63 0 }
 {
-    let mut bits = [0; 64];
-    bits[0] = 8;
-    Widths { bits }
+    let mut of = [Width { bits: 0 }; 64];
+    of[0] = Width { bits: 8 };
+    Widths { of }
 }
 
 impl Seen {

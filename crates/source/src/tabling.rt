@@ -1,6 +1,7 @@
 // Tables.
 ghost use Rattle.std.specs.Prelude.{◌≡◌, length, MatchResult};
 ghost use Rattle.token.specs.Stands.{token_of};
+ghost use Rattle.program.specs.Stands.{TableNo};
 ghost use Rattle.source.specs.declared.fault.Fault.TheVariants.{Memory};
 ghost use Rattle.source.specs.Names.{table_of};
 ghost use Rattle.source.specs.Steps.{room as room_at};

@@ -18,10 +18,9 @@ use table::lookup::chosen;
 fn told(node: &Node) -> (u16, u8, u16, u16) {
     match node.does {
         Does::Halt => (node.stage, 9, 0, 0),
-        Does::Set(change) => (node.stage, 9, change.next, 0),
-        Does::Add(change) => (node.stage, 9, change.next, 0),
-        Does::Look(lookup) => (node.stage, lookup.table.at, lookup.next, 0),
-        Does::Ask(question) => (node.stage, 9, question.passed, question.failed),
+        Does::Act { next, .. } => (node.stage, 9, next, 0),
+        Does::Look { table, next } => (node.stage, table.at, next, 0),
+        Does::Ask { passed, failed, .. } => (node.stage, 9, passed, failed),
     }
 }
 

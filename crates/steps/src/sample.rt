@@ -2,7 +2,7 @@
 use play::event::Event;
 use program::action::{Action, Operand};
 use program::declarations::{Declarations, MatchKind, TableDeclaration};
-use program::field::{FieldNo, Fields, TableNo, Widths};
+use program::field::{FieldNo, Fields, TableNo, Width, Widths};
 use program::statement::{Kind, Statement};
 use std::alloc::{AllocError, Global};
 use table::entry::{Actions, Edit, Entry};
@@ -19,7 +19,9 @@ pub(crate) fn declarations(heap: Global) -> Result<Declarations, AllocError> {
 }
 
 fn bytes() -> Widths {
-    Widths { bits: [8; 64] }
+    Widths {
+        of: [Width { bits: 8 }; 64],
+    }
 }
 
 fn table(heap: Global, sets: FieldNo) -> Result<TableDeclaration, AllocError> {

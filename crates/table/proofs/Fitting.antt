@@ -7,7 +7,7 @@ use Rattle.model.specs.Action.{act, acts}
 use Rattle.model.specs.Table as table
 use Rattle.model.specs.Table.{Pattern, fits, first_fit, agrees}
 use Rattle.program.specs.Stands.{numbers_of, action_of}
-use Rattle.program.specs.declared.field.FieldNo.{FieldNo}
+use Rattle.program.specs.Stands.{FieldNo}
 use Rattle.program.specs.declared.action.Action.{Action}
 use Rattle.table.specs.Stands.{patterns_of, entry_of, entries_of, actions_of}
 use Rattle.table.specs.declared.entry.Entry.{Entry}

@@ -3,7 +3,7 @@ use Rattle.std.proofs.Common.{◌≡◌, ℕ, ◌+◌, ◌<◌, ◌≤◌, Bool,
 use Rattle.std.proofs.lemmas.List.{drop_more, drop_all}
 use Rattle.std.proofs.lemmas.Bool.{eq-eqb, ne_eqb}
 use Rattle.program.specs.Stands.{numbers_of}
-use Rattle.program.specs.declared.field.FieldNo.{FieldNo}
+use Rattle.program.specs.Stands.{FieldNo}
 use Rattle.update.specs.Decoding.{among}
 
 among_more : (f : ℕ) (fs : List FieldNo) (k : ℕ) (x : FieldNo) → k < length fs → x ≡ get_or fs k x → among f (numbers_of (drop k fs)) ≡ (eqb x.at f || among f (numbers_of (drop (k + 1) fs)))

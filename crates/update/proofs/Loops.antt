@@ -7,7 +7,7 @@ use Rattle.model.specs.Version.{Edit}
 use Rattle.update.specs.Decoded.{Then}
 use Rattle.std.proofs.lemmas.List.{drop_more, drop_all}
 use Rattle.program.specs.Stands.{numbers_of}
-use Rattle.program.specs.declared.field.FieldNo.{FieldNo}
+use Rattle.program.specs.Stands.{FieldNo}
 use Rattle.table.specs.Stands.{patterns_of}
 use Rattle.update.specs.Decoding.{action_at, actions_at, pattern_at, patterns_at, entry_at, entries_at, edit_at, edits_at}
 

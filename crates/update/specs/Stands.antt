@@ -1,7 +1,7 @@
 -- What the code's answers stand for.
 use Rattle.std.specs.Prelude.{◌≡◌, ℕ, Bool, true, false, List, take, Some, None, Ok, Err, vec_items, Option, Result, Vec}
 use Rattle.model.specs.Action as action
-use Rattle.program.specs.declared.field.FieldNo.{FieldNo}
+use Rattle.program.specs.Stands.{FieldNo}
 use Rattle.model.specs.Table as table
 use Rattle.table.specs.Stands.{actions_of, patterns_of, entries_of, edits_of}
 use Rattle.update.specs.declared.patterns.Patterns.{Patterns}

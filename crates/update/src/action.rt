@@ -1,6 +1,6 @@
 // The actions of an entry.
-ghost use Rattle.std.specs.Prelude.{◌≡◌, ℕ, ◌≤◌, cond, List, IfOk, slice_index};
-ghost use Rattle.program.specs.Stands.{operand_of, action_of, declarations_of, table_of, numbers_of};
+ghost use Rattle.std.specs.Prelude.{◌≡◌, ℕ, ◌≤◌, cond, List, IfOk, nat_lt, slice_index};
+ghost use Rattle.program.specs.Stands.{bits_of, operand_of, action_of, declarations_of, table_of, numbers_of};
 ghost use Rattle.update.specs.Decoded.{Refused, NoField};
 ghost use Rattle.update.specs.Decoding.{among, is_there, field_at, operand_at, change_by, settable_at, action_at, count_at};
 ghost use Rattle.update.specs.Stands.{Gives, Found, change_of};
@@ -71,7 +71,7 @@ impl Cursor<'_> {
     {
         let at = self.at;
         let f = self.byte()?;
-        match known(declarations, f) {
+        match known(declarations.widths, f) {
             Some(field) => Ok(field),
             None => Err(Fault::NoField(at)),
         }
@@ -111,28 +111,14 @@ fn changed(change: Change, field: FieldNo, operand: Operand) -> Action
 }
 
 // A field is there if it has a width.
-fn known(declarations: &Declarations, f: u8) -> Option<FieldNo>
-    ensures { Found result (is_there (declarations_of declarations.now) f) f }
+fn known(widths: Widths, f: u8) -> Option<FieldNo>
+    ensures { Found result (nat_lt 0 (slice_index (bits_of widths) f)) f }
 {
-    if width_of(declarations.widths, f) == 0 {
+    let field = FieldNo::new(f as usize)?;
+    if widths.get(field).bits == 0 {
         return None;
     }
-    if f < 64 {
-        return Some(FieldNo { at: f });
-    }
-    None
-}
-
-// The bits of a field; one past the last has none.
-pub(crate) fn width_of(widths: Widths, f: u8) -> u8
-    ensures value { result ≡ slice_index widths.bits f }
-    ensures narrow { result ≤ 32 }
-    ensures past { 64 ≤ f → result ≡ 0 }
-{
-    if f < 64 {
-        return widths.bits[f as usize];
-    }
-    0
+    Some(field)
 }
 
 // The field of this number among others.

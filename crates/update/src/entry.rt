@@ -5,24 +5,22 @@ ghost use Rattle.table.specs.Stands.{entry_of, actions_of};
 ghost use Rattle.update.specs.Decoding.{fitting_at, pattern_at, patterns_at, entry_at, actions_at};
 ghost use Rattle.update.specs.Stands.{Gives, actions_listed, patterns_listed};
 
-use crate::action::width_of;
 use crate::cursor::Cursor;
 use crate::fault::Fault;
 use crate::patterns::Patterns;
 use program::action::{Action, Operand};
 use program::declarations::{Declarations, TableDeclaration};
-use program::field::FieldNo;
+use program::field::{FieldNo, Width};
 use table::entry::{Actions, Entry};
 
 impl Cursor<'_> {
     // A number that fits so many bits.
-    fn fitting(&mut self, width: u8) -> Result<u32, Fault>
-        requires { width ≤ 32 }
-        ensures { Gives (fitting_at width self.old.at self.old.rest.now) result (λ x. x) self.new.at self.new.rest.now }
+    fn fitting(&mut self, width: Width) -> Result<u32, Fault>
+        ensures { Gives (fitting_at width.bits self.old.at self.old.rest.now) result (λ x. x) self.new.at self.new.rest.now }
     {
         let at = self.at;
         let x = self.word()?;
-        if u64::from(x) >= 1u64 << width {
+        if u64::from(x) >= 1u64 << width.bits {
             return Err(Fault::TooWide(at));
         }
         Ok(x)
@@ -64,7 +62,7 @@ impl Cursor<'_> {
             if k >= 4 {
                 return Err(Fault::NoMemory);
             }
-            match self.pattern(width_of(declarations.widths, looks[k].at)) {
+            match self.pattern(declarations.widths.get(looks[k])) {
                 Ok((value, mask)) => {
                     values[k] = value;
                     masks[k] = mask;
@@ -80,9 +78,8 @@ impl Cursor<'_> {
     }
 
     // A value and a mask that fit so many bits.
-    fn pattern(&mut self, width: u8) -> Result<(u32, u32), Fault>
-        requires { width ≤ 32 }
-        ensures { Gives (pattern_at width self.old.at self.old.rest.now) result (λ x. record { value = x.0; mask = x.1 }) self.new.at self.new.rest.now }
+    fn pattern(&mut self, width: Width) -> Result<(u32, u32), Fault>
+        ensures { Gives (pattern_at width.bits self.old.at self.old.rest.now) result (λ x. record { value = x.0; mask = x.1 }) self.new.at self.new.rest.now }
     {
         let value = self.fitting(width)?;
         let mask = self.fitting(width)?;

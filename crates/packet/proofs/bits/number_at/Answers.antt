@@ -8,11 +8,11 @@ pub returns : goal.returns
 returns c =
     let bs : List ℕ = c.args.bytes.now in
     let at : ℕ = c.args.at in
-    let w : ℕ = c.args.width in
+    let w : ℕ = c.args.width.bits in
     let p : ℕ = at / 8 in
     let n : ℕ = (at + w + 7) / 8 - at / 8 in
     let s : ℕ = 8 * ((at + w + 7) / 8) - (at + w) in
-    let narrow : w < 64 = omega (arith, c.requires.narrow) in
+    let narrow : w < 64 = omega (arith, c.args.width.narrow) in
     let place : 8 * p + at % 8 ≡ at = omega arith in
     ap₂ (λ (m k : ℕ). m / 2 ^ s % k) c.joined-touched.ensures (one_shl w 64 narrow)
     ∙ number_touched bs p n (at % 8) w s (omega arith) (omega (arith, c.requires.within))

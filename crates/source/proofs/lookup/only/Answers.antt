@@ -1,5 +1,5 @@
 use Rattle.std.proofs.Common.{◌+◌, drop, Option, sym, ap, ◌∙◌}
-use Rattle.program.specs.declared.field.FieldNo.{FieldNo}
+use Rattle.program.specs.Stands.{FieldNo}
 use Rattle.source.specs.Names.{only_behind, fields_of, field_number}
 use Rattle.source.proofs.Finding.{only_miss, only_first, only_second, only_end}
 use Rattle.source.proofs.lookup.only.Goals as goal

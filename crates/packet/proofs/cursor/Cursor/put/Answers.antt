@@ -7,11 +7,11 @@ use Rattle.packet.proofs.cursor.Cursor.put.Goals as goal
 
 pub loop-held-init : goal.loop-held-init
 loop-held-init c =
-    let narrow : c.args.width < 64 = omega (arith, c.requires.narrow) in
-    let P : ℕ → Type 0 = λ s. c.args.self.waiting * s + c.args.value % s < 2 ^ (c.args.self.held + c.args.width) in (
+    let narrow : c.args.width.bits < 64 = omega (arith, c.args.width.narrow) in
+    let P : ℕ → Type 0 = λ s. c.args.self.waiting * s + c.args.value % s < 2 ^ (c.args.self.held + c.args.width.bits) in (
       refl,
-      subst P (sym (one_shl c.args.width 64 narrow)) (join_below c.args.self.waiting c.args.value c.args.self.held c.args.width c.args.self.small),
-      omega (arith, c.args.self.few, c.requires.narrow),
+      subst P (sym (one_shl c.args.width.bits 64 narrow)) (join_below c.args.self.waiting c.args.value c.args.self.held c.args.width.bits c.args.self.small),
+      omega (arith, c.args.self.few, c.args.width.narrow),
       refl,
     )
 
@@ -42,12 +42,12 @@ invariant_of-result c = record { few = c.loop-held-test.false; small = c.loop-he
 
 pub returns : goal.returns
 returns c =
-    let narrow : c.args.width < 64 = omega (arith, c.requires.narrow) in
+    let narrow : c.args.width.bits < 64 = omega (arith, c.args.width.narrow) in
     let front : List ℕ = bits_of (take c.args.self.at c.args.out.now) in
     record {
       bits =
           c.loop-held.invariant.0
-          ∙ ap (λ (s : ℕ). front ++ bits_of_number (c.args.self.held + c.args.width) (c.args.self.waiting * s + c.args.value % s)) (one_shl c.args.width 64 narrow)
-          ∙ ap (λ (l : List ℕ). front ++ l) (bits_join c.args.self.held c.args.width c.args.self.waiting c.args.value);
+          ∙ ap (λ (s : ℕ). front ++ bits_of_number (c.args.self.held + c.args.width.bits) (c.args.self.waiting * s + c.args.value % s)) (one_shl c.args.width.bits 64 narrow)
+          ∙ ap (λ (l : List ℕ). front ++ l) (bits_join c.args.self.held c.args.width.bits c.args.self.waiting c.args.value);
       count = omega (arith, c.loop-held.invariant.3);
     }

@@ -12,9 +12,8 @@ pub number_at-requires : goal.number_at-requires
 number_at-requires c =
     let end : ℕ = c.args.header.now.from + c.args.header.now.fields in
     record {
-      narrow = c.args.self.now.widths.now.narrow c.loop-field.field;
       short = c.requires.short;
-      within = omega (arith, bit_count_more (widths_of c.args.self.now.widths.now) end c.loop-field.field c.loop-field-test.true, c.loop-field.invariant.1);
+      within = omega (arith, c.get-width.ensures, bit_count_more (widths_of c.args.self.now.widths.now) end c.loop-field.field c.loop-field-test.true, c.loop-field.invariant.1);
     }
 
 pub loop-field-preserved : goal.loop-field-preserved
@@ -25,12 +24,12 @@ loop-field-preserved c =
     let end : ℕ = c.args.header.now.from + c.args.header.now.fields in
     let bits : List ℕ = bits_of c.args.bytes.now in
     let few : f < length c.loop-field.fields.of = omega (arith, c.loop-field.invariant.2, c.args.header.now.ok, c.loop-field-test.true) in
-    let value : c.number_at.result ≡ number_of (take (W f) (drop at bits)) = c.number_at.ensures in (
-      ap₂ (λ (bs : List ℕ) (p : Packet). read_fields W (end - (f + 1)) (f + 1) bs p) (sym (drop-drop (W f) at bits))
+    let value : c.number_at.result ≡ number_of (take (W f) (drop at bits)) = c.number_at.ensures ∙ ap (λ (w : ℕ). number_of (take w (drop at bits))) c.get-width.ensures in (
+      ap₂ (λ (bs : List ℕ) (p : Packet). read_fields W (end - (f + 1)) (f + 1) bs p) (ap (λ (w : ℕ). drop (at + w) bits) c.get-width.ensures ∙ sym (drop-drop (W f) at bits))
           (put_is c.loop-field.fields.of f c.number_at.result few ∙ ap (λ (x : ℕ). put f x (fields_of c.loop-field.fields)) value)
           ∙ sym (fields_more W end f (drop at bits) (fields_of c.loop-field.fields) c.loop-field-test.true)
           ∙ c.loop-field.invariant.0,
-      omega (arith, bit_count_more W end f c.loop-field-test.true, c.loop-field.invariant.1),
+      omega (arith, c.get-width.ensures, bit_count_more W end f c.loop-field-test.true, c.loop-field.invariant.1),
       length-set c.loop-field.fields.of f c.number_at.result ∙ c.loop-field.invariant.2,
     )
 

@@ -6,8 +6,8 @@ use Rattle.packet.proofs.format.Format.size.Goals as goal
 pub loop-field-preserved : goal.loop-field-preserved
 loop-field-preserved c =
     let end : ℕ = c.args.header.now.from + c.args.header.now.fields in (
-      omega (arith, bit_count_more (widths_of c.args.self.now.widths.now) end c.loop-field.field c.loop-field-test.true, c.loop-field.invariant.0),
-      omega (arith, c.args.self.now.widths.now.narrow c.loop-field.field, c.loop-field.invariant.1),
+      omega (arith, c.get.ensures, bit_count_more (widths_of c.args.self.now.widths.now) end c.loop-field.field c.loop-field-test.true, c.loop-field.invariant.0),
+      omega (arith, c.get.result.narrow, c.loop-field.invariant.1),
     )
 
 pub returns : goal.returns

@@ -38,8 +38,7 @@ pub put-cursor-requires : goal.put-cursor-requires
 put-cursor-requires c =
     let end : ℕ = c.args.header.now.from + c.args.header.now.fields in
     record {
-      narrow = c.args.self.now.widths.now.narrow c.loop-field.field;
-      room = omega (arith, bit_count_more (widths_of c.args.self.now.widths.now) end c.loop-field.field c.loop-field-test.true, c.loop-field.invariant.2, c.loop-field.auto.out, c.requires);
+      room = omega (arith, c.get.ensures, bit_count_more (widths_of c.args.self.now.widths.now) end c.loop-field.field c.loop-field-test.true, c.loop-field.invariant.2, c.loop-field.auto.out, c.requires);
     }
 
 pub loop-field-preserved : goal.loop-field-preserved
@@ -52,11 +51,12 @@ loop-field-preserved c =
     let waiting : List ℕ = bits_of_number c.loop-field.cursor.held c.loop-field.cursor.waiting in
     let rest : List ℕ = write_fields W (end - (f + 1)) (f + 1) F in (
       ap (λ (l : List ℕ). l ++ rest) c.put-cursor.ensures.bits
+          ∙ ap (λ (w : ℕ). (front ++ (waiting ++ bits_of_number w (F f))) ++ rest) c.get.ensures
           ∙ regroup front waiting (bits_of_number (W f) (F f)) rest
           ∙ ap (λ (l : List ℕ). (front ++ waiting) ++ l) (sym (write_more W end f F c.loop-field-test.true))
           ∙ c.loop-field.invariant.0,
       (λ i. (c.type_inv.out i).fits),
-      omega (arith, c.put-cursor.ensures.count, bit_count_more W end f c.loop-field-test.true, c.loop-field.invariant.2),
+      omega (arith, c.get.ensures, c.put-cursor.ensures.count, bit_count_more W end f c.loop-field-test.true, c.loop-field.invariant.2),
     )
 
 pub overflow_cast-out-then-cursor-gt0 : goal.overflow_cast-out-then-cursor-gt0

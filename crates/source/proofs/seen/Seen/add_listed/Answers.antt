@@ -1,5 +1,5 @@
 use Rattle.std.proofs.Common.{ℕ, List, vec_items, sym, ap, ◌∙◌}
-use Rattle.program.specs.declared.field.FieldNo.{FieldNo}
+use Rattle.program.specs.Stands.{FieldNo}
 use Rattle.source.specs.declared.phase.Part.{Part}
 use Rattle.source.specs.State.{with_tables}
 use Rattle.source.specs.Using.{add_listed}

@@ -2,7 +2,7 @@ use Rattle.std.proofs.Common.{◌≡◌, ℕ, List, [], ◌∷◌, ◌++◌, vec
 use Rattle.std.specs.declared.alloc.Global.{Global}
 use Rattle.model.specs.Declarations as declarations
 use Rattle.program.specs.Stands.{table_of, numbers_of}
-use Rattle.program.specs.declared.field.FieldNo.{FieldNo}
+use Rattle.program.specs.Stands.{FieldNo}
 use Rattle.program.specs.declared.declarations.TableDeclaration.{TableDeclaration}
 use Rattle.program.specs.declared.declarations.MatchKind.TheVariants.{Ternary}
 use Rattle.source.specs.State.{with_tables}

@@ -1,6 +1,6 @@
 use Rattle.std.proofs.Common.{ℕ, ltb, vec_items, sym, ap, ◌∙◌}
 use Rattle.std.proofs.lemmas.List.{length-map}
-use Rattle.program.specs.declared.field.FieldNo.{FieldNo}
+use Rattle.program.specs.Stands.{FieldNo}
 use Rattle.source.specs.declared.phase.Part.{Part}
 use Rattle.source.specs.Using.{has_room}
 use Rattle.source.specs.Stands.{seen_of, part_of}

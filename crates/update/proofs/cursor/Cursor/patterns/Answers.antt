@@ -1,8 +1,8 @@
-use Rattle.std.proofs.Common.{◌≡◌, ℕ, ◌+◌, ◌<◌, List, [], ◌∷◌, ◌++◌, length, get_or, take, drop, set, sym, refl, ap, ◌∙◌, subst, ap₂, zero-le, arith}
+use Rattle.std.proofs.Common.{◌≡◌, ℕ, ◌+◌, ◌<◌, List, [], ◌∷◌, ◌++◌, length, take, drop, set, sym, refl, ap, ◌∙◌, subst, ap₂, zero-le, arith}
 use Rattle.std.proofs.lemmas.List.{length-set, take_more_set, length-take-le}
 use Rattle.model.specs.Table.{Pattern}
 use Rattle.program.specs.Stands.{declarations_of, numbers_of}
-use Rattle.program.specs.declared.field.FieldNo.{FieldNo}
+use Rattle.program.specs.Stands.{FieldNo}
 use Rattle.table.specs.Stands.{patterns_of}
 use Rattle.update.specs.Decoded.{Decoded}
 use Rattle.update.specs.Decoding.{pattern_at, patterns_at}
@@ -13,8 +13,8 @@ use Rattle.update.proofs.cursor.Cursor.patterns.Goals as goal
 pub returns-in-Err : goal.returns-in-Err
 returns-in-Err c k =
     subst (λ (z : Decoded). Refuses c.in-Err.fault z)
-    (ap (λ (n : ℕ). pattern_at n c.loop-k.self.at c.loop-k.self.rest.now (λ w behind rest. patterns_at (declarations_of c.args.declarations.now) (numbers_of (drop (c.loop-k.k + 1) c.as_slice-looks.result.now)) ((patterns_of (take c.loop-k.k c.loop-k.values) (take c.loop-k.k c.loop-k.masks)) ++ (w ∷ [])) behind rest k)) c.width_of.ensures.value
-    ∙ sym (patterns_more (declarations_of c.args.declarations.now) c.as_slice-looks.result.now c.loop-k.k (get_or c.as_slice-looks.result.now c.loop-k.k c.index-looks-k.result) (patterns_of (take c.loop-k.k c.loop-k.values) (take c.loop-k.k c.loop-k.masks)) c.loop-k.self.at c.loop-k.self.rest.now k c.loop-k-test.true (ap (get_or c.as_slice-looks.result.now c.loop-k.k) c.index-looks-k.is))
+    (ap (λ (n : ℕ). pattern_at n c.loop-k.self.at c.loop-k.self.rest.now (λ w behind rest. patterns_at (declarations_of c.args.declarations.now) (numbers_of (drop (c.loop-k.k + 1) c.as_slice-looks.result.now)) ((patterns_of (take c.loop-k.k c.loop-k.values) (take c.loop-k.k c.loop-k.masks)) ++ (w ∷ [])) behind rest k)) c.get.ensures
+    ∙ sym (patterns_more (declarations_of c.args.declarations.now) c.as_slice-looks.result.now c.loop-k.k c.index-looks-k.result (patterns_of (take c.loop-k.k c.loop-k.values) (take c.loop-k.k c.loop-k.masks)) c.loop-k.self.at c.loop-k.self.rest.now k c.loop-k-test.true c.index-looks-k.is)
     ∙ c.loop-k.invariant.3 k
     ∙ ap (λ (l : List FieldNo). patterns_at (declarations_of c.args.declarations.now) (numbers_of l) [] c.args.self.now.at c.args.self.now.rest.now k) c.as_slice-looks.ensures.value)
     (c.in-Err.ensures (λ w behind rest. patterns_at (declarations_of c.args.declarations.now) (numbers_of (drop (c.loop-k.k + 1) c.as_slice-looks.result.now)) ((patterns_of (take c.loop-k.k c.loop-k.values) (take c.loop-k.k c.loop-k.masks)) ++ (w ∷ [])) behind rest k))
@@ -39,8 +39,8 @@ loop-k-preserved c =
       λ k.
           ap (λ (l : List Pattern). patterns_at (declarations_of c.args.declarations.now) (numbers_of (drop (c.loop-k.k + 1) c.as_slice-looks.result.now)) l c.pattern.new.self.at c.pattern.new.self.rest.now k) pushed
           ∙ sym (c.in-Ok.ensures (λ w behind rest. patterns_at (declarations_of c.args.declarations.now) (numbers_of (drop (c.loop-k.k + 1) c.as_slice-looks.result.now)) ((patterns_of (take c.loop-k.k c.loop-k.values) (take c.loop-k.k c.loop-k.masks)) ++ (w ∷ [])) behind rest k))
-          ∙ ap (λ (n : ℕ). pattern_at n c.loop-k.self.at c.loop-k.self.rest.now (λ w behind rest. patterns_at (declarations_of c.args.declarations.now) (numbers_of (drop (c.loop-k.k + 1) c.as_slice-looks.result.now)) ((patterns_of (take c.loop-k.k c.loop-k.values) (take c.loop-k.k c.loop-k.masks)) ++ (w ∷ [])) behind rest k)) c.width_of.ensures.value
-          ∙ sym (patterns_more (declarations_of c.args.declarations.now) c.as_slice-looks.result.now c.loop-k.k (get_or c.as_slice-looks.result.now c.loop-k.k c.index-looks-k.result) (patterns_of (take c.loop-k.k c.loop-k.values) (take c.loop-k.k c.loop-k.masks)) c.loop-k.self.at c.loop-k.self.rest.now k c.loop-k-test.true (ap (get_or c.as_slice-looks.result.now c.loop-k.k) c.index-looks-k.is))
+          ∙ ap (λ (n : ℕ). pattern_at n c.loop-k.self.at c.loop-k.self.rest.now (λ w behind rest. patterns_at (declarations_of c.args.declarations.now) (numbers_of (drop (c.loop-k.k + 1) c.as_slice-looks.result.now)) ((patterns_of (take c.loop-k.k c.loop-k.values) (take c.loop-k.k c.loop-k.masks)) ++ (w ∷ [])) behind rest k)) c.get.ensures
+          ∙ sym (patterns_more (declarations_of c.args.declarations.now) c.as_slice-looks.result.now c.loop-k.k c.index-looks-k.result (patterns_of (take c.loop-k.k c.loop-k.values) (take c.loop-k.k c.loop-k.masks)) c.loop-k.self.at c.loop-k.self.rest.now k c.loop-k-test.true c.index-looks-k.is)
           ∙ c.loop-k.invariant.3 k,
     )
 
