@@ -5,7 +5,7 @@ ghost use Rattle.frames.specs.Answering.{code_of, offset_of, names_offset, writt
 use crate::kind::Kind;
 use std::alloc::AllocError;
 
-#[derive(Clone, Copy)]
+#[derive(Clone, Copy, Debug, PartialEq, Eq, Hash)]
 pub enum Answer {
     // The input ends within a frame of this kind.
     Cut(Kind),
@@ -48,9 +48,9 @@ impl Answer {
     fn names_offset(self) -> bool
         ensures { result ≡ names_offset self }
     {
-        match self {
-            Answer::Cut(Kind::Source | Kind::Update) | Answer::UpdateWithoutProgram => true,
-            Answer::Cut(Kind::Packet) | Answer::UnknownKind | Answer::PacketWithoutProgram => false,
-        }
+        matches!(
+            self,
+            Answer::Cut(Kind::Source | Kind::Update) | Answer::UpdateWithoutProgram
+        )
     }
 }

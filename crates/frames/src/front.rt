@@ -1,7 +1,7 @@
 // What stands at the front of the bytes at hand.
 use crate::kind::Kind;
 
-#[derive(Clone, Copy)]
+#[derive(Clone, Copy, Debug, PartialEq, Eq, Hash)]
 pub enum Next<'a> {
     // There are no bytes.
     Empty,

@@ -1,6 +1,6 @@
 // The kinds of frame that carry bytes behind a length.
 
-#[derive(Clone, Copy)]
+#[derive(Clone, Copy, Debug, PartialEq, Eq, Hash)]
 pub enum Kind {
     // The text of a program.
     Source,

@@ -4,7 +4,7 @@ ghost use Rattle.frames.specs.Reading.{opens};
 
 use crate::kind::Kind;
 
-#[derive(Clone, Copy)]
+#[derive(Clone, Copy, Debug, PartialEq, Eq, Hash)]
 pub enum Opening {
     // A frame that carries bytes behind a length.
     Framed(Kind),
@@ -14,10 +14,10 @@ pub enum Opening {
     Unknown,
 }
 
-impl Opening {
-    pub fn of(byte: u8) -> Opening
-        ensures { result ≡ opens byte }
-    {
+impl From<u8> for Opening {
+    ghost from_gives = { λ byte opening. opening ≡ opens byte };
+
+    fn from(byte: u8) -> Opening {
         match byte {
             1 => Opening::Framed(Kind::Source),
             2 => Opening::Framed(Kind::Update),

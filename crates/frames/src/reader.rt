@@ -15,7 +15,7 @@ pub fn next(bytes: &[u8]) -> Next<'_>
     let Some((first, rest)) = bytes.split_first() else {
         return Next::Empty;
     };
-    match Opening::of(*first) {
+    match Opening::from(*first) {
         Opening::Framed(kind) => framed(kind, rest),
         Opening::Pause => Next::Pause { rest },
         Opening::Unknown => Next::Unknown,

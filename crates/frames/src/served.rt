@@ -1,6 +1,6 @@
 // How far serving the front of the bytes at hand came.
 
-#[derive(Clone, Copy)]
+#[derive(Clone, Copy, Debug, PartialEq, Eq, Hash)]
 pub enum Served {
     // No whole frame is at hand, and the input goes on.
     More,

@@ -9,7 +9,7 @@ use crate::kind::Kind;
 use crate::reader::next;
 use crate::served::Served;
 
-#[derive(Clone, Copy)]
+#[derive(Clone, Copy, Debug, PartialEq, Eq, Hash)]
 pub struct Step {
     pub answer: Option<Answer>,
     pub result: Served,

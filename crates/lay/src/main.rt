@@ -1,12 +1,14 @@
 // Reads a source and prints its nodes and stages, or why it is refused.
 #![tactic(auto)]
 
-mod arguments;
 mod failure;
 mod naming;
 mod report;
 
-use arguments::Arguments;
+use console::command::Command;
+use console::ending::status;
+use console::failure::Failure as Common;
+use console::writing::write;
 use failure::Failure;
 use listing::writing::listing;
 use placement::{Fault as Misplaced, place};
@@ -14,8 +16,9 @@ use program::node::Node;
 use source::fault::Fault;
 use source::reading::read;
 use source::seen::Seen;
+use std::alloc::AllocError;
 use std::fs;
-use std::io::{Read, Write};
+use std::io::Read;
 use std::process::ExitCode;
 
 const HELP: &str = "\
@@ -27,34 +30,22 @@ A source that is refused gives a line with its code and offset, and status 1.
 ";
 
 fn main(rt: HostRuntime) -> ExitCode {
-    match run(&rt) {
-        Ok(()) => ExitCode::SUCCESS,
-        Err(failure) => {
-            let _ = eprintln!(rt; "lay: {failure}");
-            ExitCode::FAILURE
+    status(&rt, "lay", run(&rt))
+}
+
+fn run(rt: &HostRuntime) -> Result<(), Failure> {
+    match Command::read(rt, "lay")? {
+        Command::Help => Ok(write(rt, HELP.as_bytes())?),
+        Command::Version => Ok(write(rt, b"lay 0.1.0\n")?),
+        Command::Run(None) => told(rt, "standard input", &input(rt)?),
+        Command::Run(Some(path)) => {
+            let text = fs::read(rt, path.as_str()).map_err(Failure::Open)?;
+            told(rt, path.as_str(), &text)
         }
     }
 }
 
-fn run(rt: &HostRuntime) -> Result<(), Failure> {
-    match Arguments::read(rt)? {
-        Arguments::Help => print(rt, HELP),
-        Arguments::Version => print(rt, "lay 0.1.0\n"),
-        Arguments::Lay(file) => lay(rt, file),
-    }
-}
-
 // The source is read whole, then it is taken apart.
-fn lay(rt: &HostRuntime, file: Option<String>) -> Result<(), Failure> {
-    match &file {
-        None => told(rt, "standard input", &input(rt)?),
-        Some(path) => match fs::read(rt, path.as_str()) {
-            Ok(text) => told(rt, path.as_str(), &text),
-            Err(error) => Err(Failure::Open(error)),
-        },
-    }
-}
-
 fn told(rt: &HostRuntime, name: &str, text: &[u8]) -> Result<(), Failure> {
     match read(rt.alloc(), text) {
         Ok(seen) => placed(rt, name, text, &seen),
@@ -62,21 +53,17 @@ fn told(rt: &HostRuntime, name: &str, text: &[u8]) -> Result<(), Failure> {
     }
 }
 
-fn input(rt: &HostRuntime) -> Result<Vec<u8>, Failure> {
+fn input(rt: &HostRuntime) -> Result<Vec<u8>, Common> {
     let mut text = Vec::new(rt.alloc());
-    match rt.stdin().read_to_end(&mut text) {
-        Ok(_) => Ok(text),
-        Err(error) => Err(Failure::Input(error)),
-    }
+    rt.stdin().read_to_end(&mut text).map_err(Common::Input)?;
+    Ok(text)
 }
 
 fn placed(rt: &HostRuntime, name: &str, text: &[u8], seen: &Seen) -> Result<(), Failure> {
-    let Ok(end) = u32::try_from(seen.body.end) else {
-        return Err(Failure::TooLong);
-    };
+    let end = u32::try_from(seen.body.end).map_err(|_| Failure::TooLong)?;
     match place(rt.alloc(), &seen.body.rows, end) {
         Ok(nodes) => shown(rt, seen, &nodes),
-        Err(Misplaced::NoMemory) => Err(Failure::Memory),
+        Err(Misplaced::NoMemory) => Err(AllocError.into()),
         Err(Misplaced::NoRoom(offset)) => {
             report::tell(
                 rt,
@@ -107,12 +94,5 @@ fn refused(rt: &HostRuntime, name: &str, text: &[u8], fault: Fault) -> Result<()
 fn shown(rt: &HostRuntime, seen: &Seen, nodes: &[Node]) -> Result<(), Failure> {
     let heap = rt.alloc();
     let names = naming::names(heap, seen)?;
-    print(rt, listing(heap, &names, nodes)?.as_str())
-}
-
-fn print(rt: &HostRuntime, text: &str) -> Result<(), Failure> {
-    match rt.stdout().write_all(text.as_bytes()) {
-        Ok(()) => Ok(()),
-        Err(error) => Err(Failure::Output(error)),
-    }
+    Ok(write(rt, listing(heap, &names, nodes)?.as_bytes())?)
 }

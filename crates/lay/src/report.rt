@@ -13,11 +13,13 @@ pub(crate) fn tell(
     words: &str,
 ) -> Result<(), Failure> {
     println!(rt; "{code} {offset}")?;
-    let place = Place::of(text, offset);
-    let line = place.line;
-    let column = place.column;
+    let Place {
+        line,
+        column,
+        text: shown,
+    } = Place::of(text, offset);
     eprintln!(rt; "{name}:{line}:{column}: {words} (code {code}, offset {offset})")?;
-    if let Ok(shown) = from_utf8(place.text) {
+    if let Ok(shown) = from_utf8(shown) {
         eprintln!(rt; "    {shown}")?;
         eprint!(rt; "    ")?;
         for _ in 1..column {
@@ -53,29 +55,18 @@ struct Place<'a> {
 
 impl Place<'_> {
     fn of(text: &[u8], offset: usize) -> Place<'_> {
-        let mut line = 1usize;
-        let mut from = 0usize;
-        for (at, byte) in text.iter().enumerate() {
-            if at < offset && *byte == b'\n' {
-                line = line.saturating_add(1);
-                from = at + 1;
-            }
-        }
-        let mut to = from;
-        for at in from..text.len() {
-            if text[at] == b'\n' {
-                break;
-            }
-            to = at + 1;
-        }
-        let column = offset.saturating_sub(from).saturating_add(1);
-        match text.get(from..to) {
-            Some(text) => Place { line, column, text },
-            None => Place {
-                line,
-                column,
-                text: &text[0..0],
-            },
+        let (before, behind) = text.split_at(offset.min(text.len()));
+        let is_end = |byte: &u8| *byte == b'\n';
+        let from = before.iter().rposition(is_end).map_or(0, |at| at + 1);
+        let rest = behind.iter().position(is_end).unwrap_or(behind.len());
+        Place {
+            line: before
+                .iter()
+                .filter(|byte| is_end(byte))
+                .count()
+                .saturating_add(1),
+            column: offset.saturating_sub(from).saturating_add(1),
+            text: &text[from..before.len() + rest],
         }
     }
 }

@@ -1,37 +1,12 @@
 // Why the program ends before its input does.
-use std::alloc::AllocError;
-use std::{fmt, io};
+use console::failure::Failure as Common;
+use thiserror::Error;
 
-#[derive(Drop, Debug)]
+#[derive(Debug, Drop, Error)]
 pub(crate) enum Failure {
-    Arguments(io::Error),
-    TooManyArguments,
-    Open(String, io::Error),
-    Input(io::Error),
-    Output(io::Error),
-    Memory,
+    #[error(transparent)]
+    Common(#[from] Common),
     // A program's source came, which cannot be read yet.
+    #[error("a source frame came, and line cannot read a source yet")]
     Source,
-}
-
-impl From<AllocError> for Failure {
-    fn from(_error: AllocError) -> Failure {
-        Failure::Memory
-    }
-}
-
-impl fmt::Display for Failure {
-    fn fmt<W: fmt::Write>(&self, f: &mut fmt::Formatter<W>) -> fmt::Result {
-        match self {
-            Failure::Arguments(error) => write!(f, "cannot read the arguments: {error}"),
-            Failure::TooManyArguments => f.write_str("too many arguments (see line --help)"),
-            Failure::Open(path, error) => write!(f, "cannot open {path}: {error}"),
-            Failure::Input(error) => write!(f, "cannot read the input: {error}"),
-            Failure::Output(error) => write!(f, "cannot write the output: {error}"),
-            Failure::Memory => f.write_str("out of memory"),
-            Failure::Source => f.write_str(
-                "a source frame came, and line cannot read a source yet",
-            ),
-        }
-    }
 }

@@ -2,28 +2,27 @@
 ghost use Rattle.std.specs.Prelude.{◌≤◌, length, IfOk};
 
 use crate::failure::Failure;
-use crate::window::Window;
+use console::failure::Failure as Common;
+use console::reading::read_on;
+use console::writing::write;
 use frames::served::Served;
 use frames::server::serve;
-use std::alloc::AllocError;
-use std::io::{Read, Write};
+use std::io::Read;
 
 pub(crate) fn stream(rt: &HostRuntime, input: &mut impl Read) -> Result<(), Failure> {
-    let mut window = Window::new(rt.alloc())?;
+    let mut held = Vec::new(rt.alloc());
     let mut out = Vec::new(rt.alloc());
     // Nothing says that an input ends, so the reads are counted; none counts so far.
     for _ in 0..u64::MAX {
-        let more = window.fill(input)?;
-        let stopped = serve_all(window.held(), !more, &mut out);
-        if let Err(error) = rt.stdout().write_all(&out) {
-            return Err(Failure::Output(error));
-        }
+        let more = read_on(input, &mut held)?;
+        let stopped = serve_all(&held, !more, &mut out);
+        write(rt, &out)?;
         out.clear();
         let (used, served) = stopped?;
         match served {
             Served::End => return Ok(()),
             Served::AtSource => return Err(Failure::Source),
-            Served::More | Served::Frame { .. } => window.release(used),
+            Served::More | Served::Frame { .. } => drop(held.drain(..used)),
         }
     }
     Ok(())
@@ -31,7 +30,7 @@ pub(crate) fn stream(rt: &HostRuntime, input: &mut impl Read) -> Result<(), Fail
 
 // Serves the frames at the front of `bytes` one after the other: how many bytes they are, and what
 // stopped it.
-fn serve_all(bytes: &[u8], ended: bool, out: &mut Vec<u8>) -> Result<(usize, Served), AllocError>
+fn serve_all(bytes: &[u8], ended: bool, out: &mut Vec<u8>) -> Result<(usize, Served), Common>
     ensures { IfOk result (λ p. p.0 ≤ length bytes.now) }
 {
     let mut at = 0;

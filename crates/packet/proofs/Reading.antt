@@ -1,8 +1,9 @@
 -- The steps of reading: fields of a header, choices, and headers.
-use Rattle.std.proofs.Common.{◌≡◌, ℕ, zero, suc, ◌+◌, ◌-◌, ◌<◌, ◌≤◌, Bool, true, false, cond, eqb, ltb, List, [], ◌∷◌, map, length, get_or, take, drop, set, replicate, Ok, Err, Result, sym, refl, ap, ◌∙◌, ⊎_elim, suc-add, arith}
+use Rattle.std.proofs.Common.{◌≡◌, ℕ, zero, suc, ◌+◌, ◌-◌, ◌<◌, ◌≤◌, Bool, true, false, cond, eqb, ltb, List, [], ◌∷◌, map, length, get_or, take, drop, set, replicate, Some, None, Ok, Err, Option, Result, sym, refl, ap, ◌∙◌, ⊎_elim, suc-add, arith}
 use mathlib.Core.Path.{fun_ext}
 use Rattle.std.proofs.lemmas.List.{drop_more, drop_all, drop-drop, take_rest, get_or-set_same, get_or-set_other}
 use Rattle.std.proofs.lemmas.Bool.{eq-eqb, ne_eqb, cases_eq, lt-ltb, le-ltb}
+use Rattle.std.specs.List.{find}
 use Rattle.model.specs.Packet.{Packet, put}
 use Rattle.program.specs.declared.headers.Choice.{Choice}
 use Rattle.program.specs.declared.headers.Header.{Header}
@@ -56,19 +57,25 @@ read_rest w k f at bs p q e = e ∙ ap (λ (l : List ℕ). read_fields w k f (bi
 pub left_behind : (bs : List ℕ) (at n m : ℕ) → n ≡ m → drop (at + n) bs ≡ drop m (drop at bs)
 left_behind bs at n m e = sym (drop-drop n at bs) ∙ ap (λ (k : ℕ). drop k (drop at bs)) e
 
--- one choice more, and none
-pub chosen_more : (cs : List Choice) (k x : ℕ) (d : Choice) → k < length cs →
-    chosen (choices_of (drop k cs)) x ≡ cond (eqb (get_or cs k d).value x) (next_of (get_or cs k d).next) (chosen (choices_of (drop (k + 1) cs)) x)
-unfolding chosen
-chosen_more cs k x d h = rw (drop_more cs k d h) refl
+-- what the library's first choice says
+abbrev pub says : Option Choice → Next
+says (Some c) = next_of c.next
+says None = model.End
 
-pub chosen_end : (cs : List Choice) (k x : ℕ) → length cs ≤ k → chosen (choices_of (drop k cs)) x ≡ model.End
+pub chosen_found : (cs : List Choice) (x : ℕ) → chosen (choices_of cs) x ≡ says (find (λ (c : Choice). eqb c.value x) cs)
 unfolding chosen
-chosen_end cs k x h = rw (drop_all k cs h) refl
+chosen_found [] x = refl
+chosen_found (c ∷ cs) x =
+    ap (λ n. cond (eqb c.value x) (next_of c.next) n) (chosen_found cs x)
+    ∙ elim (eqb c.value x) as (λ b. cond b (next_of c.next) (says (find (λ (d : Choice). eqb d.value x) cs)) ≡ says (cond b (Some c) (find (λ (d : Choice). eqb d.value x) cs))) [ true ↦ refl | false ↦ refl ]
 
 pub chosen_none : (x : ℕ) → chosen [] x ≡ model.End
 unfolding chosen
 chosen_none x = refl
+
+-- an element of a list that is the same
+pub is_header : {xs hs : List Header} {h : Header} (i : ℕ) → xs ≡ hs → h ≡ get_or xs i h → h ≡ get_or hs i h
+is_header {xs} {hs} {h} i e is = is ∙ ap (λ (l : List Header). get_or l i h) e
 
 -- one header more: the packet ends within it, or it is read
 module _ (w : Widths) (hs : List Header) (i : ℕ) (h : Header) (next : Next) (c : Contents) (within : i < length hs) (is : h ≡ get_or hs i h) where

@@ -10,6 +10,7 @@ use Rattle.program.specs.declared.headers.Header.{Header}
 use Rattle.program.specs.declared.headers.Headers.{Headers}
 use Rattle.packet.specs.Header as model
 use Rattle.packet.specs.Contents.{Contents}
+use Rattle.packet.specs.declared.format.Format.{Format}
 use Rattle.packet.specs.declared.parsed.Parsed.{Parsed}
 use Rattle.packet.specs.declared.parsed.Refused.{Refused}
 
@@ -49,6 +50,13 @@ header_of h = record { first = h.from; count = h.fields; by = by_of h.after; cho
 
 abbrev pub headers_of : Headers → List model.Header
 headers_of hs = map header_of (vec_items hs.all)
+
+-- by what packets are taken apart and put together
+abbrev pub widths_in : Format → model.Widths
+widths_in f = widths_of f.widths.now
+
+abbrev pub headers_in : Format → List model.Header
+headers_in f = headers_of f.headers.now
 
 -- fields, the bits of the present headers and a payload
 abbrev pub holding : Fields → ℕ → List ℕ → Contents

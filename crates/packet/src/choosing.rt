@@ -1,5 +1,7 @@
 // Which header comes next.
-ghost use Rattle.std.specs.Prelude.{◌≡◌, ◌<◌, true};
+ghost use Rattle.std.specs.Prelude.{◌≡◌, ◌<◌, true, ◌==◌};
+ghost use Rattle.std.specs.List.{find};
+ghost use Rattle.program.specs.declared.headers.Choice.{Choice};
 ghost use Rattle.packet.specs.Header.{chosen as chosen_in, comes as comes_in};
 ghost use Rattle.packet.specs.Stands.{fields_of, next_of, choices_of, header_of};
 
@@ -21,20 +23,19 @@ pub fn comes(next: Option<HeaderNo>, number: usize) -> bool
 pub fn behind(header: &Header, fields: &Fields) -> Option<HeaderNo>
     ensures { next_of result ≡ chosen_in (header_of header.now).choices (fields_of fields.now (header_of header.now).by) }
 {
-    match &header.after {
-        Some(after) => chosen(&after.choices, fields.of[after.field.at as usize]),
-        None => None,
-    }
+    let after = header.after.as_ref()?;
+    chosen(&after.choices, fields.of[after.field.at as usize])
 }
 
-// The first choice with this value; none is the end.
+// What the first choice with this value says; none is the end.
 fn chosen(choices: &[Choice], value: u32) -> Option<HeaderNo>
     ensures { next_of result ≡ chosen_in (choices_of choices.now) value }
 {
-    for k in 0..choices.len() {
-        if choices[k].value == value {
-            return choices[k].next;
-        }
-    }
-    None
+    first(choices, value)?.next
+}
+
+fn first(choices: &[Choice], value: u32) -> Option<Choice>
+    ensures { result ≡ find (λ (c : Choice). c.value == value) choices.now }
+{
+    choices.iter().copied().find(|choice| choice.value == value)
 }

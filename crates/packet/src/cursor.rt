@@ -6,30 +6,43 @@ use program::field::Width;
 
 // The bytes before `at` are whole, and the bits that wait are the lowest `held` of `waiting`.
 #[derive(Clone, Copy)]
-pub struct Cursor {
-    pub at: usize,
-    pub held: u8,
-    pub waiting: u64,
+pub(crate) struct Cursor {
+    pub(crate) at: usize,
+    pub(crate) held: u8,
+    pub(crate) waiting: u64,
+    ghost few: { held < 8 },
+    ghost small: { waiting < 2 ^ held },
 }
 
-// The lowest bits of a value, as many as a field has, follow the bits that wait; whole bytes are written.
-pub fn put(out: &mut [u8], cursor: Cursor, value: u32, width: Width) -> Cursor
-    requires few { cursor.held < 8 }
-    requires small { cursor.waiting < 2 ^ cursor.held }
-    requires room { 8 * cursor.at + cursor.held + width.bits ≤ 8 * length out.old }
-    ensures bits { bits_of (take result.at out.new) ++ bits_of_number result.held result.waiting ≡ bits_of (take cursor.at out.old) ++ (bits_of_number cursor.held cursor.waiting ++ bits_of_number width.bits value) }
-    ensures few { result.held < 8 }
-    ensures small { result.waiting < 2 ^ result.held }
-    ensures count { 8 * result.at + result.held ≡ 8 * cursor.at + cursor.held + width.bits }
-{
-    let mut at = cursor.at;
-    let mut held = cursor.held + width.bits;
-    let mut waiting = cursor.waiting * (1u64 << width.bits) + value as u64 % (1u64 << width.bits);
-    while held >= 8 {
-        held -= 8;
-        out[at] = (waiting >> held) as u8;
-        waiting %= 1u64 << held;
-        at += 1;
+impl Cursor {
+    // Before the first bit.
+    pub(crate) fn new() -> Cursor
+        ensures at { result.at ≡ 0 }
+        ensures held { result.held ≡ 0 }
+        ensures waiting { result.waiting ≡ 0 }
+    {
+        Cursor {
+            at: 0,
+            held: 0,
+            waiting: 0,
+        }
     }
-    Cursor { at, held, waiting }
+
+    // The lowest bits of a value, as many as a field has, follow the bits that wait; whole bytes are written.
+    pub(crate) fn put(self, out: &mut [u8], value: u32, width: Width) -> Cursor
+        requires room { 8 * self.at + self.held + width.bits ≤ 8 * length out.old }
+        ensures bits { bits_of (take result.at out.new) ++ bits_of_number result.held result.waiting ≡ bits_of (take self.at out.old) ++ (bits_of_number self.held self.waiting ++ bits_of_number width.bits value) }
+        ensures count { 8 * result.at + result.held ≡ 8 * self.at + self.held + width.bits }
+    {
+        let mut at = self.at;
+        let mut held = self.held + width.bits;
+        let mut waiting = self.waiting * (1u64 << width.bits) + value as u64 % (1u64 << width.bits);
+        while held >= 8 {
+            held -= 8;
+            out[at] = (waiting >> held) as u8;
+            waiting %= 1u64 << held;
+            at += 1;
+        }
+        Cursor { at, held, waiting }
+    }
 }

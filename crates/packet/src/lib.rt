@@ -5,6 +5,7 @@ mod bits;
 mod choosing;
 mod cursor;
 pub mod deparser;
+pub mod format;
 pub mod laws;
 mod layout;
 pub mod parsed;

@@ -15,7 +15,7 @@ pub struct Parsed<'a> {
 }
 
 // Why a packet is refused.
-#[derive(Clone, Copy)]
+#[derive(Clone, Copy, Debug, PartialEq, Eq, Hash)]
 pub enum Refused {
     EndsWithinHeader,
     TooLong,

@@ -3,16 +3,16 @@ ghost use Rattle.std.specs.Prelude.{◌≡◌, ◌*◌, ◌<◌, ◌≤◌, leng
 ghost use Rattle.packet.specs.Bits.{bits_of};
 ghost use Rattle.packet.specs.Header.{bit_count, size as size_in};
 ghost use Rattle.packet.specs.Parsing.{read_fields, read_header, behind as behind_in, parse as parse_in};
-ghost use Rattle.packet.specs.Stands.{widths_of, fields_of, next_of, header_of, headers_of, outcome_of};
+ghost use Rattle.packet.specs.Stands.{fields_of, next_of, header_of, outcome_of, widths_in, headers_in};
 ghost use Rattle.packet.specs.Progress.{reached};
 
 use crate::bits::number_at;
 use crate::choosing::{behind, comes};
-use crate::layout::size;
+use crate::format::Format;
 use crate::parsed::{Parsed, Refused};
 use crate::presence::with;
-use program::field::{FieldNo, Fields, Widths};
-use program::headers::{Header, HeaderNo, Headers};
+use program::field::{FieldNo, Fields};
+use program::headers::{Header, HeaderNo};
 
 // How far a packet has been taken apart: what was read, what comes next, and the first byte that is left.
 #[derive(Clone, Copy)]
@@ -26,73 +26,72 @@ struct Progress {
 // The most bytes that a packet may have.
 const LONGEST: usize = 2048;
 
-// What a packet's bytes hold, or why it is refused.
-pub fn parse<'a>(headers: &Headers, widths: &Widths, bytes: &'a [u8]) -> Result<Parsed<'a>, Refused>
-    ensures parses { parse_in (widths_of widths.now) (headers_of headers.now) headers.now.first.at bytes.now ≡ outcome_of result }
-    ensures short { IfOk result (λ p. length p.payload.now ≤ 2048) }
-{
-    if bytes.len() > LONGEST {
-        return Err(Refused::TooLong);
-    }
-    let mut progress = Progress {
-        fields: Fields { of: [0; 64] },
-        present: 0,
-        next: Some(headers.first),
-        at: 0,
-    };
-    for number in 0..headers.all.len() {
-        if comes(progress.next, number) {
-            let Ok(()) = read(&mut progress, number, &headers.all[number], widths, bytes) else {
-                return Err(Refused::EndsWithinHeader);
-            };
+impl Format<'_> {
+    // What a packet's bytes hold, or why it is refused.
+    pub fn parse<'a>(&self, bytes: &'a [u8]) -> Result<Parsed<'a>, Refused>
+        ensures parses { parse_in (widths_in self.now) (headers_in self.now) self.now.headers.now.first.at bytes.now ≡ outcome_of result }
+        ensures short { IfOk result (λ p. length p.payload.now ≤ 2048) }
+    {
+        if bytes.len() > LONGEST {
+            return Err(Refused::TooLong);
         }
+        let mut progress = Progress {
+            fields: Fields { of: [0; 64] },
+            present: 0,
+            next: Some(self.headers.first),
+            at: 0,
+        };
+        for (number, header) in self.headers.all.iter().enumerate() {
+            if comes(progress.next, number) {
+                self.read(&mut progress, number, header, bytes)?;
+            }
+        }
+        Ok(Parsed {
+            fields: progress.fields,
+            present: progress.present,
+            payload: &bytes[progress.at..],
+        })
     }
-    let fields = progress.fields;
-    Ok(Parsed {
-        fields,
-        present: progress.present,
-        payload: &bytes[progress.at..],
-    })
-}
 
-// The header that comes next is read, if the packet does not end within it.
-fn read(
-    progress: &mut Progress,
-    number: usize,
-    header: &Header,
-    widths: &Widths,
-    bytes: &[u8],
-) -> Result<(), Refused>
-    requires known { number < 8 }
-    requires short { length bytes.now ≤ 2048 }
-    requires within { progress.old.at ≤ length bytes.now }
-    ensures stays { progress.new.at ≤ length bytes.now }
-    ensures fits { MatchResult result (λ _. size_in (widths_of widths.now) (header_of header.now) ≤ length (drop progress.old.at bytes.now)) (λ e. (e ≡ Refused.EndsWithinHeader) × (length (drop progress.old.at bytes.now) < size_in (widths_of widths.now) (header_of header.now))) }
-    ensures reads { OnOk result (reached progress.new bytes.now ≡ read_header (widths_of widths.now) number (header_of header.now) (reached progress.old bytes.now)) }
-    ensures turns { OnOk result (next_of progress.new.next ≡ behind_in (header_of header.now) (reached progress.new bytes.now)) }
-{
-    let left = &bytes[progress.at..];
-    let taken = size(header, widths);
-    if left.len() < taken {
-        return Err(Refused::EndsWithinHeader);
+    // The header that comes next is read, if the packet does not end within it.
+    fn read(
+        &self,
+        progress: &mut Progress,
+        number: usize,
+        header: &Header,
+        bytes: &[u8],
+    ) -> Result<(), Refused>
+        requires known { number < 8 }
+        requires short { length bytes.now ≤ 2048 }
+        requires within { progress.old.at ≤ length bytes.now }
+        ensures stays { progress.new.at ≤ length bytes.now }
+        ensures fits { MatchResult result (λ _. size_in (widths_in self.now) (header_of header.now) ≤ length (drop progress.old.at bytes.now)) (λ e. (e ≡ Refused.EndsWithinHeader) × (length (drop progress.old.at bytes.now) < size_in (widths_in self.now) (header_of header.now))) }
+        ensures reads { OnOk result (reached progress.new bytes.now ≡ read_header (widths_in self.now) number (header_of header.now) (reached progress.old bytes.now)) }
+        ensures turns { OnOk result (next_of progress.new.next ≡ behind_in (header_of header.now) (reached progress.new bytes.now)) }
+    {
+        let left = &bytes[progress.at..];
+        let taken = self.size(header);
+        if left.len() < taken {
+            return Err(Refused::EndsWithinHeader);
+        }
+        self.read_fields(header, left, &mut progress.fields);
+        progress.present = with(progress.present, number);
+        progress.next = behind(header, &progress.fields);
+        progress.at += taken;
+        Ok(())
     }
-    read_fields(&mut progress.fields, header, widths, left);
-    progress.present = with(progress.present, number);
-    progress.next = behind(header, &progress.fields);
-    progress.at += taken;
-    Ok(())
-}
 
-// A header's fields are read from the front of the bytes.
-fn read_fields(fields: &mut Fields, header: &Header, widths: &Widths, bytes: &[u8])
-    requires short { length bytes.now ≤ 2048 }
-    requires within { bit_count (widths_of widths.now) (header_of header.now).count (header_of header.now).first ≤ 8 * length bytes.now }
-    ensures { fields_of fields.new ≡ read_fields (widths_of widths.now) (header_of header.now).count (header_of header.now).first (bits_of bytes.now) (fields_of fields.old) }
-{
-    let mut at = 0usize;
-    for field in header.from..header.from + header.fields {
-        let width = widths.get(FieldNo { at: field });
-        fields.of[field as usize] = number_at(bytes, at, width);
-        at += width.bits as usize;
+    // A header's fields are read from the front of the bytes.
+    fn read_fields(&self, header: &Header, bytes: &[u8], fields: &mut Fields)
+        requires short { length bytes.now ≤ 2048 }
+        requires within { bit_count (widths_in self.now) (header_of header.now).count (header_of header.now).first ≤ 8 * length bytes.now }
+        ensures { fields_of fields.new ≡ read_fields (widths_in self.now) (header_of header.now).count (header_of header.now).first (bits_of bytes.now) (fields_of fields.old) }
+    {
+        let mut at = 0usize;
+        for field in header.from..header.from + header.fields {
+            let width = self.widths.get(FieldNo { at: field });
+            fields.of[field as usize] = number_at(bytes, at, width);
+            at += width.bits as usize;
+        }
     }
 }

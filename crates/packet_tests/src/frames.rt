@@ -1,7 +1,6 @@
 // Frames written out as bytes: taken apart, looked at, and put together again.
 use crate::protocols::{headers, widths};
-use packet::deparser::deparse;
-use packet::parser::parse;
+use packet::format::Format;
 use program::field::Fields;
 use std::alloc::Global;
 use std::process::Abort;
@@ -35,35 +34,30 @@ fn goes_through(
 ) -> Result<Fields, Fail> {
     let headers = headers(heap)?;
     let widths = widths()?;
-    let Ok(parsed) = parse(&headers, &widths, bytes) else {
+    let format = Format {
+        headers: &headers,
+        widths: &widths,
+    };
+    let Ok(parsed) = format.parse(bytes) else {
         return Err(Fail::new("refused"));
     };
     assert_eq!(rt; parsed.present, present);
     assert_eq!(rt; parsed.payload.len(), payload);
     let mut out = [0u8; 64];
-    let Ok(written) = deparse(
-        &headers,
-        &widths,
-        &parsed.fields,
-        parsed.present,
-        parsed.payload,
-        &mut out,
-    ) else {
-        return Err(Fail::new("no room"));
-    };
-    assert_eq!(rt; written, bytes.len());
-    for at in 0..bytes.len() {
-        assert!(rt; at < out.len());
-        assert_eq!(rt; out[at], bytes[at], "byte {at}");
+    let written = format.deparse(&parsed.fields, parsed.present, parsed.payload, &mut out);
+    assert_eq!(rt; written, Ok(bytes.len()));
+    assert!(rt; bytes.len() <= out.len());
+    for (at, (byte, expected)) in out.iter().zip(bytes).enumerate() {
+        assert_eq!(rt; byte, expected, "byte {at}");
     }
     Ok(parsed.fields)
 }
 
 // From a number on, the fields hold these values.
 fn has(rt: &impl Abort, fields: &Fields, from: usize, values: &[u32]) -> Result<(), Fail> {
-    for k in 0..values.len() {
-        assert!(rt; from < 64 && k < 64 - from);
-        assert_eq!(rt; fields.of[from + k], values[k], "field {from} + {k}");
+    assert!(rt; from < 64 && values.len() <= 64 - from);
+    for (k, (field, value)) in fields.of[from..].iter().zip(values).enumerate() {
+        assert_eq!(rt; field, value, "field {from} + {k}");
     }
     Ok(())
 }
@@ -114,15 +108,19 @@ fn arp(rt: HostRuntime) -> Result<(), Fail> {
 fn refused(rt: HostRuntime) -> Result<(), Fail> {
     let headers = headers(rt.alloc())?;
     let widths = widths()?;
+    let format = Format {
+        headers: &headers,
+        widths: &widths,
+    };
     let bytes: &[u8] = TAGGED;
     for length in 0..46usize {
-        let Err(refused) = parse(&headers, &widths, &bytes[0..length]) else {
+        let Err(refused) = format.parse(&bytes[0..length]) else {
             return Err(Fail::new("not refused"));
         };
         assert_eq!(rt; u8::from(refused.code()), 6);
     }
-    assert!(rt; parse(&headers, &widths, &bytes[0..46]).is_ok());
-    assert!(rt; parse(&headers, &widths, &[0; 2048]).is_ok());
-    assert!(rt; parse(&headers, &widths, &[0; 2049]).is_err());
+    assert!(rt; format.parse(&bytes[0..46]).is_ok());
+    assert!(rt; format.parse(&[0; 2048]).is_ok());
+    assert!(rt; format.parse(&[0; 2049]).is_err());
     Ok(())
 }

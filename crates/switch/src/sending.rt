@@ -5,7 +5,7 @@ ghost use Rattle.compiler.specs.Stands.{format_of};
 ghost use Rattle.pipeline.specs.Stands.{packet_of};
 ghost use Rattle.stream.specs.Writing.{sent};
 
-use packet::deparser::deparse;
+use packet::format::Format;
 use pipeline::packet::{Packet, Payload};
 use program::declarations::Declarations;
 use program::headers::Headers;
@@ -40,9 +40,11 @@ pub(crate) fn send(
         return 0;
     }
     let payload = bytes(&packet.payload);
-    let put = deparse(
+    let format = Format {
         headers,
-        &declarations.widths,
+        widths: &declarations.widths,
+    };
+    let put = format.deparse(
         &packet.fields,
         packet.payload.present,
         payload,

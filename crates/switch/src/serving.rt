@@ -11,7 +11,7 @@ ghost use Rattle.switch.specs.Starving.{Done};
 use crate::running::Running;
 use crate::sending::send;
 use crate::writing::{refuse, tell};
-use packet::parser::parse;
+use packet::format::Format;
 use pipeline::answer::{Left, Updated};
 use pipeline::packet::Incoming;
 use std::alloc::Global;
@@ -65,7 +65,11 @@ impl Running {
         ensures small { result ≤ 4102 }
     {
         let loaded = self.pipeline.loaded();
-        let parsed = parse(&self.headers, &loaded.declarations.widths, body);
+        let format = Format {
+            headers: &self.headers,
+            widths: &loaded.declarations.widths,
+        };
+        let parsed = format.parse(body);
         match parsed {
             Ok(parsed) => {
                 let left = self.pipeline.step(Incoming {

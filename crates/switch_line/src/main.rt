@@ -1,15 +1,13 @@
 // The switch as a program: frames in, frames out, as a stream.
 #![tactic(auto)]
 
-mod arguments;
-mod failure;
 mod streaming;
-mod window;
 
-use arguments::Arguments;
-use failure::Failure;
-use std::fs;
-use std::io::Write;
+use console::command::Command;
+use console::ending::status;
+use console::failure::Failure;
+use console::reading::open;
+use console::writing::write;
 use std::process::ExitCode;
 use streaming::stream;
 
@@ -21,30 +19,14 @@ Reads frames from FILE, or from standard input, and writes a frame for each answ
 ";
 
 fn main(rt: HostRuntime) -> ExitCode {
-    match run(&rt) {
-        Ok(()) => ExitCode::SUCCESS,
-        Err(failure) => {
-            let _ = eprintln!(rt; "switch_line: {failure}");
-            ExitCode::FAILURE
-        }
-    }
+    status(&rt, "switch_line", run(&rt))
 }
 
 fn run(rt: &HostRuntime) -> Result<(), Failure> {
-    match Arguments::read(rt)? {
-        Arguments::Help => print(rt, HELP),
-        Arguments::Version => print(rt, "switch_line 0.1.0\n"),
-        Arguments::Input => stream(rt, &mut rt.stdin()),
-        Arguments::File(path) => match fs::open(rt, path.as_str()) {
-            Ok(mut file) => stream(rt, &mut file),
-            Err(error) => Err(Failure::Open(path, error)),
-        },
-    }
-}
-
-fn print(rt: &HostRuntime, text: &str) -> Result<(), Failure> {
-    match rt.stdout().write_all(text.as_bytes()) {
-        Ok(()) => Ok(()),
-        Err(error) => Err(Failure::Output(error)),
+    match Command::read(rt, "switch_line")? {
+        Command::Help => write(rt, HELP.as_bytes()),
+        Command::Version => write(rt, b"switch_line 0.1.0\n"),
+        Command::Run(None) => stream(rt, &mut rt.stdin()),
+        Command::Run(Some(path)) => stream(rt, &mut open(rt, path)?),
     }
 }

@@ -1,7 +1,8 @@
 // An input from its beginning to its end, with each answer written before the next read.
-use crate::failure::Failure;
-use crate::window::Window;
-use std::io::{Read, Write};
+use console::failure::Failure;
+use console::reading::read_on;
+use console::writing::write;
+use std::io::Read;
 use switch::feeding::LONGEST_ANSWER;
 use switch::stepping::Progress;
 use switch::switch::Switch;
@@ -11,17 +12,17 @@ const PIECE: usize = 1_048_576;
 
 pub(crate) fn stream(rt: &HostRuntime, input: &mut impl Read) -> Result<(), Failure> {
     let mut switch = Switch::new(rt.alloc());
-    let mut window = Window::new(rt.alloc())?;
+    let mut held = Vec::new(rt.alloc());
     let mut out = vec![in rt.alloc(); 0; PIECE]?;
     // Nothing says that an input ends, so the reads are counted; none counts so far.
     for _ in 0..u64::MAX {
-        let more = window.fill(input)?;
-        serve(rt, &mut switch, &mut window, &mut out)?;
+        let more = read_on(input, &mut held)?;
+        serve(rt, &mut switch, &mut held, &mut out)?;
         if switch.has_stopped() {
             return Ok(());
         }
         if !more {
-            return finish(rt, &switch, window.held(), &mut out);
+            return finish(rt, &switch, &held, &mut out);
         }
     }
     Ok(())
@@ -31,13 +32,13 @@ pub(crate) fn stream(rt: &HostRuntime, input: &mut impl Read) -> Result<(), Fail
 fn serve(
     rt: &HostRuntime,
     switch: &mut Switch,
-    window: &mut Window,
+    held: &mut Vec<u8>,
     out: &mut [u8],
 ) -> Result<(), Failure> {
     for _ in 0..u64::MAX {
-        let Progress { used, written } = switch.feed(window.held(), out);
-        write(rt, &out[0..written])?;
-        window.release(used);
+        let Progress { used, written } = switch.feed(held, out);
+        write(rt, &out[..written])?;
+        drop(held.drain(..used));
         // There was room for one answer more, so no whole frame is left.
         if used == 0 || out.len() - written >= LONGEST_ANSWER {
             return Ok(());
@@ -51,12 +52,5 @@ fn finish(rt: &HostRuntime, switch: &Switch, left: &[u8], out: &mut [u8]) -> Res
     let Ok(written) = switch.finish(left, out) else {
         return Ok(());
     };
-    write(rt, &out[0..written])
-}
-
-fn write(rt: &HostRuntime, bytes: &[u8]) -> Result<(), Failure> {
-    match rt.stdout().write_all(bytes) {
-        Ok(()) => Ok(()),
-        Err(error) => Err(Failure::Output(error)),
-    }
+    write(rt, &out[..written])
 }
