@@ -17,5 +17,16 @@ pub enum Failure {
     #[error("cannot write the output: {0}")]
     Output(io::Error),
     #[error("out of memory")]
-    Memory(#[from] AllocError),
+    Memory,
+}
+
+impl From<AllocError> for Failure {
+    ghost use Rattle.std.specs.Prelude.{◌≡◌};
+    ghost use Rattle.console.specs.declared.failure.Failure.TheVariants.{Memory};
+
+    ghost from_gives = { λ _ failure. failure ≡ Memory };
+
+    fn from(_error: AllocError) -> Failure {
+        Failure::Memory
+    }
 }

@@ -1,8 +1,10 @@
 // The answers that can be given while no program is loaded, and their bytes.
 ghost use Rattle.std.specs.Prelude.{◌≡◌, ◌++◌, is_ok, if◌then◌else◌};
+ghost use Rattle.codes.specs.Codes.{number_of};
 ghost use Rattle.frames.specs.Answering.{code_of, offset_of, names_offset, written};
 
 use crate::kind::Kind;
+use codes::code::Code;
 use std::alloc::AllocError;
 
 #[derive(Clone, Copy, Debug, PartialEq, Eq, Hash)]
@@ -20,7 +22,7 @@ impl Answer {
     pub fn write(self, out: &mut Vec<u8>) -> Result<(), AllocError>
         ensures { out.new.items ≡ (if is_ok result then out.old.items ++ written self else out.old.items) }
     {
-        let code = self.code();
+        let code = u8::from(self.code());
         if !self.names_offset() {
             return out.extend_from_slice(&[18, code]);
         }
@@ -28,12 +30,12 @@ impl Answer {
         out.extend_from_slice(&[17, code, a, b, c, d])
     }
 
-    fn code(self) -> u8
-        ensures { result ≡ code_of self }
+    fn code(self) -> Code
+        ensures { number_of result ≡ code_of self }
     {
         match self {
-            Answer::Cut(_) | Answer::UnknownKind => 1,
-            Answer::UpdateWithoutProgram | Answer::PacketWithoutProgram => 13,
+            Answer::Cut(_) | Answer::UnknownKind => Code::Bytes,
+            Answer::UpdateWithoutProgram | Answer::PacketWithoutProgram => Code::Program,
         }
     }
 

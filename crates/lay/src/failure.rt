@@ -19,7 +19,7 @@ pub(crate) enum Failure {
 
 impl From<AllocError> for Failure {
     fn from(error: AllocError) -> Failure {
-        Failure::Common(Common::Memory(error))
+        Failure::Common(Common::from(error))
     }
 }
 

@@ -5,6 +5,8 @@ mod failure;
 mod naming;
 mod report;
 
+use codes::answer::Answer;
+use codes::code::Code;
 use console::command::Command;
 use console::ending::status;
 use console::failure::Failure as Common;
@@ -16,7 +18,6 @@ use program::node::Node;
 use source::fault::Fault;
 use source::reading::read;
 use source::seen::Seen;
-use std::alloc::AllocError;
 use std::fs;
 use std::io::Read;
 use std::process::ExitCode;
@@ -63,14 +64,16 @@ fn placed(rt: &HostRuntime, name: &str, text: &[u8], seen: &Seen) -> Result<(), 
     let end = u32::try_from(seen.body.end).map_err(|_| Failure::TooLong)?;
     match place(rt.alloc(), &seen.body.rows, end) {
         Ok(nodes) => shown(rt, seen, &nodes),
-        Err(Misplaced::NoMemory) => Err(AllocError.into()),
+        Err(Misplaced::NoMemory) => Err(Common::Memory.into()),
         Err(Misplaced::NoRoom(offset)) => {
             report::tell(
                 rt,
                 name,
                 text,
-                10,
-                offset as usize,
+                Answer {
+                    code: Code::Stage,
+                    offset: offset as usize,
+                },
                 "this needs a stage past the last, or is one node too many",
             )?;
             Err(Failure::Refused)
@@ -79,15 +82,7 @@ fn placed(rt: &HostRuntime, name: &str, text: &[u8], seen: &Seen) -> Result<(), 
 }
 
 fn refused(rt: &HostRuntime, name: &str, text: &[u8], fault: Fault) -> Result<(), Failure> {
-    let answer = fault.answer();
-    report::tell(
-        rt,
-        name,
-        text,
-        answer.code,
-        answer.offset,
-        report::words(fault),
-    )?;
+    report::tell(rt, name, text, fault.answer(), report::words(fault))?;
     Err(Failure::Refused)
 }
 

@@ -1,5 +1,6 @@
 // A refusal, for programs on standard output and for people on standard error.
 use crate::failure::Failure;
+use codes::answer::Answer;
 use source::fault::Fault;
 use std::str::from_utf8;
 
@@ -8,10 +9,11 @@ pub(crate) fn tell(
     rt: &HostRuntime,
     name: &str,
     text: &[u8],
-    code: u8,
-    offset: usize,
+    answer: Answer,
     words: &str,
 ) -> Result<(), Failure> {
+    let code = u8::from(answer.code);
+    let offset = answer.offset;
     println!(rt; "{code} {offset}")?;
     let Place {
         line,
