@@ -29,10 +29,8 @@ fn write(out: &mut Vec<u8>, edits: &[Edit]) -> Result<(), Unwritten>
     ensures appends { Appends out.old.items out.new.items (encoded (edits_of edits.now)) result }
     ensures too_many { result ≡ Err TooMany → counted (edits_of edits.now) ≡ false }
 {
-    if edits.len() > 255 {
-        return Err(Unwritten::TooMany);
-    }
-    bytes(out, &[edits.len() as u8])?;
+    let count = u8::try_from(edits.len()).map_err(|_| Unwritten::TooMany)?;
+    bytes(out, &[count])?;
     for one in edits {
         edit(out, one)?;
     }

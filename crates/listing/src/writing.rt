@@ -2,10 +2,11 @@
 ghost use Rattle.std.specs.Prelude.{◌≡◌, ◌^◌, ◌<◌, [], ◌++◌, IfOk, string_bytes, codes, decimal, slice_index_or};
 ghost use Rattle.program.specs.Stands.{operand_of, test_of, does_of, node_of, nodes_of};
 ghost use Rattle.listing.specs.Stands.{names_of, texts_of};
-ghost use Rattle.listing.specs.Listing.{operand_text, test_text, does_text, line_of, listed};
+ghost use Rattle.listing.specs.Listing.{field_text, operand_text, test_text, does_text, line_of, listed};
 
 use crate::names::Names;
 use program::action::{Action, Operand, Test};
+use program::field::FieldNo;
 use program::node::{Does, Node};
 use std::alloc::{AllocError, Global};
 
@@ -14,8 +15,8 @@ pub fn listing(heap: Global, names: &Names, nodes: &[Node]) -> Result<String, Al
     ensures { IfOk result (λ s. string_bytes s ≡ listed (names_of names.now) 0 (nodes_of nodes.now)) }
 {
     let mut text = String::new(heap);
-    for at in 0..nodes.len() {
-        let line = line_of(heap, names, at, nodes[at])?;
+    for (at, node) in nodes.iter().enumerate() {
+        let line = line_of(heap, names, at, *node)?;
         text.push_str(line.as_str())?;
     }
     Ok(text)
@@ -88,27 +89,24 @@ fn test_text(heap: Global, names: &Names, test: Test) -> Result<String, AllocErr
     ensures { IfOk result (λ s. string_bytes s ≡ test_text (names_of names.now) (test_of test)) }
 {
     match test {
-        Test::Equals(field, operand) => {
-            let operand = operand_text(heap, names, operand)?;
-            equals_text(heap, name(&names.fields, field.at), operand.as_str())
-        }
-        Test::Less(field, operand) => {
-            let operand = operand_text(heap, names, operand)?;
-            less_text(heap, name(&names.fields, field.at), operand.as_str())
-        }
+        Test::Equals(field, operand) => compared(heap, names, field, "==", operand),
+        Test::Less(field, operand) => compared(heap, names, field, "<", operand),
     }
 }
 
-fn equals_text(heap: Global, field: &str, operand: &str) -> Result<String, AllocError>
-    ensures { IfOk result (λ s. string_bytes s ≡ field.now ++ (codes " == " ++ operand.now)) }
+// A field, a relation and an operand.
+fn compared(
+    heap: Global,
+    names: &Names,
+    field: FieldNo,
+    relation: &str,
+    operand: Operand,
+) -> Result<String, AllocError>
+    ensures { IfOk result (λ s. string_bytes s ≡ field_text (names_of names.now) field.at ++ (codes " " ++ (relation.now ++ (codes " " ++ operand_text (names_of names.now) (operand_of operand))))) }
 {
-    format!(in heap; "{field} == {operand}")
-}
-
-fn less_text(heap: Global, field: &str, operand: &str) -> Result<String, AllocError>
-    ensures { IfOk result (λ s. string_bytes s ≡ field.now ++ (codes " < " ++ operand.now)) }
-{
-    format!(in heap; "{field} < {operand}")
+    let field = name(&names.fields, field.at);
+    let operand = operand_text(heap, names, operand)?;
+    format!(in heap; "{field} {relation} {operand}")
 }
 
 // A field by its name, a number in decimal.
@@ -125,8 +123,5 @@ fn operand_text(heap: Global, names: &Names, operand: Operand) -> Result<String,
 fn name(names: &[String], at: u8) -> &str
     ensures { result.now ≡ slice_index_or (texts_of names.now) at [] }
 {
-    if at as usize >= names.len() {
-        return "";
-    }
-    names[at as usize].as_str()
+    names.get(at as usize).map_or("", String::as_str)
 }
