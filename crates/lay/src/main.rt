@@ -84,7 +84,7 @@ fn placed(rt: &HostRuntime, name: &str, text: &[u8], seen: &Seen) -> Result<(), 
                 text,
                 10,
                 offset as usize,
-                "this needs a stage past the last, or is one node too many",
+                &"this needs a stage past the last, or is one node too many",
             )?;
             Err(Failure::Refused)
         }
@@ -93,14 +93,7 @@ fn placed(rt: &HostRuntime, name: &str, text: &[u8], seen: &Seen) -> Result<(), 
 
 fn refused(rt: &HostRuntime, name: &str, text: &[u8], fault: Fault) -> Result<(), Failure> {
     let answer = fault.answer();
-    report::tell(
-        rt,
-        name,
-        text,
-        answer.code,
-        answer.offset,
-        report::words(fault),
-    )?;
+    report::tell(rt, name, text, answer.code, answer.offset, &fault)?;
     Err(Failure::Refused)
 }
 
