@@ -2,6 +2,8 @@
 use Rattle.std.proofs.Common.{◌≡◌, ℕ, ◌+◌, ◌<◌, ◌≤◌, cond, eqb, ltb, List, [], ◌∷◌, ◌++◌, map, length, get_or, drop, sym, refl, ap, ◌∙◌, arith}
 use Rattle.std.proofs.lemmas.List.{drop_more, drop_all, map_push, append_assoc, append-nil}
 use Rattle.std.proofs.lemmas.Bool.{ltb-true, ltb-false, eqb-true, eq-eqb, ne_eqb, cond-true, cond-false}
+use Rattle.std.specs.List.{count_by}
+use Rattle.std.proofs.lemmas.List.Sums.{sum_by-cons}
 use Rattle.source.specs.Names.{Entry, fields_of}
 use Rattle.source.specs.Stands.{choice_of}
 use Rattle.source.specs.declared.name.FieldName.{FieldName}
@@ -11,26 +13,26 @@ use Rattle.packet.specs.Header as packet
 use Rattle.packet.specs.Stands.{choice_of as plain_of}
 use Rattle.compiler.specs.Packaging.{fields_in, fields_before, choices_of, choice}
 
-pub before_at : (n : ℕ) (fs : List FieldName) (k : ℕ) (f : FieldName) → k < length fs → f ≡ get_or fs k f →
-    fields_before n (fields_of (drop k fs)) ≡ cond (ltb f.header.at n) 1 0 + fields_before n (fields_of (drop (k + 1) fs))
+-- the library's words for how many fields there are
+pub before_is : (n : ℕ) (fs : List FieldName) → count_by (λ (f : FieldName). ltb f.header.at n) fs ≡ fields_before n (fields_of fs)
 unfolding fields_before
-before_at n fs k f h e = rw (drop_more fs k f h, ← e) refl
+before_is n [] = refl
+before_is n (f ∷ fs) = sum_by-cons (λ (x : FieldName). cond (ltb x.header.at n) 1 0) f fs ∙ ap (λ (m : ℕ). cond (ltb f.header.at n) 1 0 + m) (before_is n fs)
 
-pub in_at : (n : ℕ) (fs : List FieldName) (k : ℕ) (f : FieldName) → k < length fs → f ≡ get_or fs k f →
-    fields_in n (fields_of (drop k fs)) ≡ cond (eqb f.header.at n) 1 0 + fields_in n (fields_of (drop (k + 1) fs))
+pub in_is : (n : ℕ) (fs : List FieldName) → count_by (λ (f : FieldName). eqb f.header.at n) fs ≡ fields_in n (fields_of fs)
 unfolding fields_in
-in_at n fs k f h e = rw (drop_more fs k f h, ← e) refl
+in_is n [] = refl
+in_is n (f ∷ fs) = sum_by-cons (λ (x : FieldName). cond (eqb x.header.at n) 1 0) f fs ∙ ap (λ (m : ℕ). cond (eqb f.header.at n) 1 0 + m) (in_is n fs)
 
-pub before_end : (n : ℕ) (fs : List FieldName) (k : ℕ) → length fs ≤ k → fields_before n (fields_of (drop k fs)) ≡ 0
-unfolding fields_before
-before_end n fs k h = rw (drop_all k fs h) refl
-
-pub in_end : (n : ℕ) (fs : List FieldName) (k : ℕ) → length fs ≤ k → fields_in n (fields_of (drop k fs)) ≡ 0
-unfolding fields_in
-in_end n fs k h = rw (drop_all k fs h) refl
-
-pub at_most_one : (a n : ℕ) → cond (ltb a n) 1 0 + cond (eqb a n) 1 0 ≤ 1
+at_most_one : (a n : ℕ) → cond (ltb a n) 1 0 + cond (eqb a n) 1 0 ≤ 1
 at_most_one a n = search (arith, ltb-true, ltb-false, eqb-true)
+
+pub counts_within : (n : ℕ) (fs : List FieldName) → count_by (λ (f : FieldName). ltb f.header.at n) fs + count_by (λ (f : FieldName). eqb f.header.at n) fs ≤ length fs
+counts_within n [] = omega arith
+counts_within n (f ∷ fs) =
+    let b = sum_by-cons (λ (x : FieldName). cond (ltb x.header.at n) 1 0) f fs in
+    let o = sum_by-cons (λ (x : FieldName). cond (eqb x.header.at n) 1 0) f fs in
+    omega (arith, b, o, at_most_one f.header.at n, counts_within n fs)
 
 pub choices_at : (hs : List Entry) (h : ℕ) (cs : List Choice) (k : ℕ) (c : Choice) → k < length cs → c ≡ get_or cs k c →
     choices_of hs h (map choice_of (drop k cs)) ≡ cond (eqb c.header.at h) (choice hs (choice_of c) ∷ choices_of hs h (map choice_of (drop (k + 1) cs))) (choices_of hs h (map choice_of (drop (k + 1) cs)))

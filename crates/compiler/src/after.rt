@@ -13,11 +13,11 @@ use source::seen::{Choice as Chosen, Next};
 use std::alloc::{AllocError, Global};
 
 // What a choice names.
-fn follow(headers: &[HeaderName], next: Next) -> Option<HeaderNo>
-    ensures { follow_of result ≡ follow_in (entries_of headers.now) (next_of next) }
+fn follow(headers: &[HeaderName], next: &Next) -> Option<HeaderNo>
+    ensures { follow_of result ≡ follow_in (entries_of headers.now) (next_of next.now) }
 {
     match next {
-        Next::Header(no) => Some(no),
+        Next::Header(no) => Some(*no),
         Next::Later { name, at: _ } => find(headers, name.word()),
         Next::Ends | Next::Never { at: _ } => None,
     }
@@ -33,12 +33,11 @@ fn choices(
     ensures { IfOk result (λ cs. choices_in cs.items ≡ choices_of (entries_of headers.now) number (choices_seen chosen.now)) }
 {
     let mut choices = Vec::new(heap);
-    for k in 0..chosen.len() {
-        let choice = chosen[k];
+    for choice in chosen {
         if choice.header.at == number {
             choices.push(Choice {
                 value: choice.value,
-                next: follow(headers, choice.next),
+                next: follow(headers, &choice.next),
             })?;
         }
     }

@@ -1,5 +1,5 @@
 // The headers of a program.
-ghost use Rattle.std.specs.Prelude.{◌≡◌, ◌+◌, ◌<◌, ◌≤◌, map, length, IfOk, if◌then◌else◌, None, vec_len, slice_index_or};
+ghost use Rattle.std.specs.Prelude.{◌≡◌, ◌+◌, ◌<◌, ◌≤◌, map, length, IfOk, None, vec_len, slice_index_or};
 ghost use Rattle.packet.specs.Stands.{header_of, headers_of};
 ghost use Rattle.source.specs.Names.{fields_of, number_of};
 ghost use Rattle.source.specs.Stands.{seen_of};
@@ -19,25 +19,19 @@ struct Span {
     own: usize,
 }
 
-fn tally(counts: bool) -> usize
-    ensures value { result ≡ (if counts then 1 else 0) }
-    ensures small { result ≤ 1 }
-{
-    if counts { 1 } else { 0 }
-}
-
 fn counted(fields: &[FieldName], number: u8) -> Span
     ensures before { result.before ≡ fields_before number (fields_of fields.now) }
     ensures own { result.own ≡ fields_in number (fields_of fields.now) }
     ensures within { result.before + result.own ≤ length fields.now }
 {
-    let mut before = 0usize;
-    let mut own = 0usize;
-    for k in 0..fields.len() {
-        let field = fields[k];
-        before += tally(field.header.at < number);
-        own += tally(field.header.at == number);
-    }
+    let before = fields
+        .iter()
+        .filter(|field| field.header.at < number)
+        .count();
+    let own = fields
+        .iter()
+        .filter(|field| field.header.at == number)
+        .count();
     Span { before, own }
 }
 

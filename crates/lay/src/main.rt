@@ -74,7 +74,7 @@ fn placed(rt: &HostRuntime, name: &str, text: &[u8], seen: &Seen) -> Result<(), 
                     code: Code::Stage,
                     offset: offset as usize,
                 },
-                "this needs a stage past the last, or is one node too many",
+                &"this needs a stage past the last, or is one node too many",
             )?;
             Err(Failure::Refused)
         }
@@ -82,7 +82,7 @@ fn placed(rt: &HostRuntime, name: &str, text: &[u8], seen: &Seen) -> Result<(), 
 }
 
 fn refused(rt: &HostRuntime, name: &str, text: &[u8], fault: Fault) -> Result<(), Failure> {
-    report::tell(rt, name, text, fault.answer(), report::words(fault))?;
+    report::tell(rt, name, text, fault.answer(), &fault)?;
     Err(Failure::Refused)
 }
 

@@ -27,7 +27,7 @@ pub(crate) fn names(heap: Global, seen: &Seen) -> Result<Names, AllocError> {
 
 // A name has letters and digits only, so it is text.
 fn text(name: &Name) -> &str {
-    match from_utf8(&name.bytes[0..name.len as usize]) {
+    match from_utf8(name.word()) {
         Ok(text) => text,
         Err(_) => "?",
     }

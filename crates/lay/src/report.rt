@@ -1,16 +1,16 @@
 // A refusal, for programs on standard output and for people on standard error.
 use crate::failure::Failure;
 use codes::answer::Answer;
-use source::fault::Fault;
+use std::fmt;
 use std::str::from_utf8;
 
 // One line `CODE OFFSET`; then the place by line and column, the line itself with a mark under the place, and what is wrong.
-pub(crate) fn tell(
+pub(crate) fn tell<W: fmt::Display>(
     rt: &HostRuntime,
     name: &str,
     text: &[u8],
     answer: Answer,
-    words: &str,
+    words: &W,
 ) -> Result<(), Failure> {
     let code = u8::from(answer.code);
     let offset = answer.offset;
@@ -30,21 +30,6 @@ pub(crate) fn tell(
         eprintln!(rt; "^")?;
     }
     Ok(())
-}
-
-// What is wrong, in words.
-pub(crate) fn words(fault: Fault) -> &'static str {
-    match fault {
-        Fault::Unawaited { .. } => "this is not awaited here",
-        Fault::Name { .. } => "this name is unknown here, ambiguous, or taken",
-        Fault::Range { .. } =>
-            "this number is out of its range, or this name is longer than 24 characters",
-        Fault::Header { .. } => "this header has no bits, no whole bytes, or more than 32 bytes",
-        Fault::Depth { .. } => "this block is the ninth inside one another",
-        Fault::Twice { .. } => "this table may have been applied before on a path to here",
-        Fault::Count { .. } => "this is one too many, or the source ends with no first or no do",
-        Fault::Memory => "there is not enough memory",
-    }
 }
 
 // A place in a source, counted for people: from 1.

@@ -1,5 +1,5 @@
 -- Names that are declared, and what they stand for.
-use Rattle.std.specs.Prelude.{ℕ, cond, ◌&&◌, List, [], ◌∷◌, map, take, Some, None, Option, ◌==◌}
+use Rattle.std.specs.Prelude.{ℕ, cond, ◌&&◌, List, [], ◌∷◌, map, Some, None, Option, ◌==◌}
 use Rattle.std.specs.Str.{bytes_eq}
 use Rattle.program.specs.declared.field.No.{No}
 use Rattle.source.specs.declared.name.Name.{Name}
@@ -39,7 +39,7 @@ only fs w = only_behind None fs w
 
 -- what the code's names stand for
 abbrev pub name_of : Name → List ℕ
-name_of n = take n.len n.bytes
+name_of n = n.chars.items
 
 abbrev pub entry_of : {n : ℕ} → Named n → Entry
 entry_of e = record { name = name_of e.name; number = e.no.at }

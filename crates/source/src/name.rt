@@ -1,19 +1,16 @@
 // Names, and the numbers that they stand for.
-ghost use Rattle.std.specs.Prelude.{◌≤◌};
-
+use arrayvec::ArrayVec;
 use program::field::{FieldNo, No};
 use program::headers::HeaderNo;
 
-// A name of at most 24 characters: the first `len` of the bytes.
-#[derive(Clone, Copy)]
+// A name of at most 24 characters.
+#[derive(Drop)]
 pub struct Name {
-    pub bytes: [u8; 24],
-    pub len: u8,
-    ghost within: { len ≤ 24 },
+    pub chars: ArrayVec<u8, 24>,
 }
 
 // A name, and the number that it stands for.
-#[derive(Clone, Copy)]
+#[derive(Drop)]
 pub struct Named<const N: u8> {
     pub name: Name,
     pub no: No<N>,
@@ -24,7 +21,7 @@ pub type HeaderName = Named<8>;
 pub type TableName = Named<32>;
 
 // A field's name, its header, and its number.
-#[derive(Clone, Copy)]
+#[derive(Drop)]
 pub struct FieldName {
     pub name: Name,
     pub header: HeaderNo,

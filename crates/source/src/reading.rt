@@ -22,13 +22,13 @@ use token::scanner::Scanner;
 use token::token::{Sign, Token};
 
 // The offset of a name that no header has.
-fn missing(headers: &[HeaderName], next: Next) -> Option<usize>
-    ensures { result ≡ missing_of (entries_of headers.now) (next_of next) }
+fn missing(headers: &[HeaderName], next: &Next) -> Option<usize>
+    ensures { result ≡ missing_of (entries_of headers.now) (next_of next.now) }
 {
     match next {
         Next::Ends | Next::Header(_) => None,
-        Next::Later { name, at } => find(headers, name.word()).is_none().then_some(at),
-        Next::Never { at } => Some(at),
+        Next::Later { name, at } => find(headers, name.word()).is_none().then_some(*at),
+        Next::Never { at } => Some(*at),
     }
 }
 
@@ -38,7 +38,7 @@ fn unnamed(headers: &[HeaderName], choices: &[Choice]) -> Option<usize>
 {
     choices
         .iter()
-        .find_map(|choice| missing(headers, choice.next))
+        .find_map(|choice| missing(headers, &choice.next))
 }
 
 // The widths of the fields before any is declared: `out` has 8 bits.

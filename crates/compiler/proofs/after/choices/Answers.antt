@@ -7,23 +7,23 @@ use Rattle.compiler.proofs.Counting.{picked, passed, all_picked}
 use Rattle.compiler.proofs.after.choices.Goals as goal
 use Rattle.compiler.proofs.after.choices.Goals.{then-choice-number+in_ok-push, else-choice-number}
 
-pub loop-k-preserved : goal.loop-k-preserved
-loop-k-preserved c =
+pub loop-choice-preserved : goal.loop-choice-preserved
+loop-choice-preserved c =
     let hs = entries_of c.args.headers.now in
     let all = choices_of hs c.args.number (choices_seen c.args.chosen.now) in
     elim c.if-choice-number.branch [
       | then-choice-number+in_ok-push w ↦
-          rw w.choices-is (picked hs c.args.number c.args.chosen.now c.loop-k.k c.index-chosen-k.result
-          (vec_items c.loop-k.choices) (vec_items w.push.new.self) (record { value = c.index-chosen-k.result.value; next = w.follow.result }) all
-          c.loop-k-test.true c.index-chosen-k.is w.if-choice-number.true
-          (ap (λ (n : packet.Next). record { value = c.index-chosen-k.result.value; next = n }) w.follow.ensures) w.in_ok-push.ensures.items c.loop-k.invariant)
+          rw w.choices-is (picked hs c.args.number c.args.chosen.now c.loop-choice.choice-index c.choice-item.result
+          (vec_items c.loop-choice.choices) (vec_items w.push.new.self) (record { value = c.choice-item.result.value; next = w.follow.result }) all
+          c.loop-choice-test.true c.choice-item.is w.if-choice-number.true
+          (ap (λ (n : packet.Next). record { value = c.choice-item.result.value; next = n }) w.follow.ensures) w.in_ok-push.ensures.items c.loop-choice.invariant)
       | else-choice-number w ↦
-          rw w.choices-is (passed hs c.args.number c.args.chosen.now c.loop-k.k c.index-chosen-k.result
-          (vec_items c.loop-k.choices) all c.loop-k-test.true c.index-chosen-k.is w.if-choice-number.false c.loop-k.invariant)
+          rw w.choices-is (passed hs c.args.number c.args.chosen.now c.loop-choice.choice-index c.choice-item.result
+          (vec_items c.loop-choice.choices) all c.loop-choice-test.true c.choice-item.is w.if-choice-number.false c.loop-choice.invariant)
     ]
 
 pub returns : goal.returns
 returns c =
     let hs = entries_of c.args.headers.now in
-    all_picked hs c.args.number c.args.chosen.now c.loop-k.k (vec_items c.loop-k.choices) (choices_of hs c.args.number (choices_seen c.args.chosen.now))
-    c.loop-k-test.false c.loop-k.invariant
+    all_picked hs c.args.number c.args.chosen.now c.loop-choice.choice-index (vec_items c.loop-choice.choices) (choices_of hs c.args.number (choices_seen c.args.chosen.now))
+    c.loop-choice-test.false c.loop-choice.invariant

@@ -6,7 +6,7 @@ use Rattle.compiler.specs.Packaging.{choices_of}
 use Rattle.compiler.proofs.after.choices.Given as goal
 
 -- those that were found, and those still to be found, are all
-abbrev pub invariant-loop-k : goal.invariant-loop-k
-invariant-loop-k l =
-    choices_in (vec_items l.choices) ++ choices_of (entries_of l.headers) l.number (choices_seen (drop l.k l.chosen))
+abbrev pub invariant-loop-choice : goal.invariant-loop-choice
+invariant-loop-choice l =
+    choices_in (vec_items l.choices) ++ choices_of (entries_of l.headers) l.number (choices_seen (drop l.choice-index l.chosen))
     ≡ choices_of (entries_of l.headers) l.number (choices_seen l.chosen)
