@@ -1,5 +1,4 @@
 mod Carries
-mod Framed
 mod Presence
 mod Serves
 mod Loads

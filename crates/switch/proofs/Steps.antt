@@ -1,6 +1,6 @@
 -- The frame at the front, over plain values.
-use Rattle.std.proofs.Common.{◌≡◌, ℕ, ◌+◌, ◌-◌, ◌<◌, ◌≤◌, Bool, List, [], ◌∷◌, ◌++◌, length, drop, sym, refl, ap, ◌∙◌, inl, inr, arith}
-use Rattle.std.proofs.lemmas.List.{length-append, length-drop, drop_all}
+use Rattle.std.proofs.Common.{◌≡◌, ℕ, ◌+◌, ◌-◌, ◌<◌, ◌≤◌, Bool, List, [], ◌∷◌, ◌++◌, length, take, drop, sym, refl, ap, ap₂, ◌∙◌, inl, inr, arith}
+use Rattle.std.proofs.lemmas.List.{append_assoc, length-append, length-drop, drop_all, drop-append-le, take-append-drop}
 use Rattle.model.specs.Pipeline.{Pipeline}
 use Rattle.frames.specs.declared.kind.Kind.{Kind}
 use Rattle.frames.specs.Reading as reading
@@ -24,6 +24,33 @@ counted : (w out out' : List ℕ) (written : ℕ) → out' ≡ w ++ drop written
 counted w out out' written is same within =
     let n : length out' ≡ length w + length (drop written out) = ap length is ∙ length-append w (drop written out) in
     omega (arith, n, length-drop written out, same, within)
+
+-- a part in front was lent, and is back
+pub wider : (mode after : Mode (Pipeline Bool)) (bytes out room rest part : List ℕ) (n used written : ℕ) → room ≡ take n out → rest ≡ drop n out → written ≤ length room →
+    Steps mode after bytes room part used written → Steps mode after bytes out (part ++ rest) used written
+wider mode after bytes out room rest part n used written is behind within (inl waits) =
+    inl (record {
+      none = waits.none;
+      unused = waits.unused;
+      silent = waits.silent;
+      kept = ap₂ (λ (l m : List ℕ). l ++ m) (waits.kept ∙ is) behind ∙ take-append-drop n out;
+      stays = waits.stays;
+    })
+wider mode after bytes out room rest part n used written is behind within (inr does) =
+    let w : List ℕ = writes pipeline mode does.frame in
+    let all : room ++ rest ≡ out = ap₂ (λ (l m : List ℕ). l ++ m) is behind ∙ take-append-drop n out in
+    inr (record {
+      first = does.first;
+      frame = does.frame;
+      done = does.done;
+      rest = does.rest;
+      some = does.some;
+      wrote = ap (λ (l : List ℕ). l ++ rest) does.wrote
+          ∙ (append_assoc w (drop written room) rest
+          ∙ ap (λ (l : List ℕ). w ++ l) (sym (drop-append-le written room rest within) ∙ ap (drop written) all));
+      count = does.count;
+      goes = does.goes;
+    })
 
 module _ (mode after : Mode (Pipeline Bool)) (bytes out out' : List ℕ) (written : ℕ) (same : length out' ≡ length out) (within : written ≤ length out) where
   frame_does : (used : ℕ) (f g : Frame) (rest : List ℕ) → Done f g → parts bytes ≡ behind_frame f (parts rest) → rest ≡ drop used bytes → 0 < used →

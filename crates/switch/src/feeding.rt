@@ -17,15 +17,8 @@ use frames::reader::next;
 pub const LONGEST_ANSWER: usize = 4102;
 
 // The place for the bytes is too short for them.
-#[derive(Clone, Copy)]
+#[derive(Clone, Copy, Debug, PartialEq, Eq, Hash)]
 pub struct NoRoom;
-
-// A frame has a byte at least, so where none was used no frame was whole.
-fn stands_still(progress: Progress) -> bool
-    ensures { result ≡ (progress.used == 0) }
-{
-    progress.used == 0
-}
 
 impl Switch {
     // Does the whole frames at the front of `bytes`, one after the other, and writes the answers to the front of `out`. It stops where no frame is
@@ -38,17 +31,15 @@ impl Switch {
     {
         let mut used = 0usize;
         let mut written = 0usize;
-        loop {
-            if out.len() - written < LONGEST_ANSWER {
-                return Progress { used, written };
-            }
-            let step = self.step(&bytes[used..], &mut out[written..]);
-            if stands_still(step) {
-                return Progress { used, written };
+        while let Some(step) = self.step(&bytes[used..], &mut out[written..]) {
+            // A frame has a byte at least, so where none was used no frame was whole.
+            if step.used == 0 {
+                break;
             }
             used += step.used;
             written += step.written;
         }
+        Progress { used, written }
     }
 
     // The input has ended, and these bytes of it are left: a frame that is cut is answered.
@@ -64,14 +55,7 @@ impl Switch {
         }
         match next(left) {
             Next::Cut { kind } => Ok(cut(out, kind)),
-            Next::Empty => Ok(0),
-            Next::Pause { rest: _ } => Ok(0),
-            Next::Whole {
-                kind: _,
-                body: _,
-                rest: _,
-            } => Ok(0),
-            Next::Unknown => Ok(0),
+            Next::Empty | Next::Pause { .. } | Next::Whole { .. } | Next::Unknown => Ok(0),
         }
     }
 
@@ -79,11 +63,7 @@ impl Switch {
     pub fn has_stopped(&self) -> bool
         ensures { result ≡ is_stopped (mode_of self.now.state) }
     {
-        match &self.state {
-            State::Unloaded => false,
-            State::Running(_) => false,
-            State::Stopped => true,
-        }
+        matches!(self.state, State::Stopped)
     }
 }
 
@@ -94,8 +74,7 @@ fn cut(out: &mut [u8], kind: Kind) -> usize
     ensures small { result ≤ 6 }
 {
     match kind {
-        Kind::Source => tell(out, 1, 0),
-        Kind::Update => tell(out, 1, 0),
+        Kind::Source | Kind::Update => tell(out, 1, 0),
         Kind::Packet => refuse(out, 1),
     }
 }

@@ -17,13 +17,6 @@ fn bytes(payload: &Payload) -> &[u8]
     &payload.bytes[0..payload.length as usize]
 }
 
-// Port 0 is none.
-fn is_dropped(port: u32) -> bool
-    ensures { result ≡ (port == 0) }
-{
-    port == 0
-}
-
 // A packet is put together at the front of `out` and goes out by its port; one with port 0 is dropped. Gives the count of bytes.
 pub(crate) fn send(
     out: &mut [u8],
@@ -36,26 +29,24 @@ pub(crate) fn send(
     ensures small { result ≤ 4100 }
 {
     let port = packet.fields.of[0];
-    if is_dropped(port) {
+    // Port 0 is none.
+    if port == 0 {
         return 0;
     }
+    let Some((head, body)) = out.split_first_chunk_mut::<4>() else {
+        return 0;
+    };
     let payload = bytes(&packet.payload);
     let format = Format {
         headers,
         widths: &declarations.widths,
     };
-    let put = format.deparse(
-        &packet.fields,
-        packet.payload.present,
-        payload,
-        &mut out[4..],
-    );
+    let put = format.deparse(&packet.fields, packet.payload.present, payload, body);
     let Ok(length) = put else {
         return 0;
     };
-    out[0] = 16;
-    out[1] = (port % 256) as u8;
-    out[2] = (length / 256 % 256) as u8;
-    out[3] = (length % 256) as u8;
+    let [_, _, _, door] = port.to_be_bytes();
+    let [_, _, _, _, _, _, high, low] = length.to_be_bytes();
+    *head = [16, door, high, low];
     length + 4
 }

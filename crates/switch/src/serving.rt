@@ -10,14 +10,14 @@ ghost use Rattle.switch.specs.Starving.{Done};
 
 use crate::running::Running;
 use crate::sending::send;
-use crate::writing::{refuse, tell};
+use crate::writing::{Room, refuse, tell};
 use packet::format::Format;
 use pipeline::answer::{Left, Updated};
 use pipeline::packet::Incoming;
 use std::alloc::Global;
 use update::decoding::decode;
 
-// The bits of the present headers, of which a byte has eight.
+// The bits of the present headers. A proof knows of a byte that is passed that it is below 256, and not of one within what `parse` gave.
 fn eight(present: u8) -> u8
     ensures same { result ≡ present }
     ensures small { result < 256 }
@@ -47,8 +47,7 @@ impl Running {
     }
 
     // A step that brings nothing.
-    pub(crate) fn pause(&mut self, out: &mut [u8]) -> usize
-        requires { 4100 ≤ length out.old }
+    pub(crate) fn pause(&mut self, out: &mut Room) -> usize
         ensures writes { out.new ≡ writes machine (running_of self.old) Pause ++ drop result out.old }
         ensures next { running_of self.new ≡ next machine (running_of self.old) Pause }
         ensures small { result ≤ 4100 }
@@ -58,8 +57,7 @@ impl Running {
     }
 
     // A packet is taken apart and comes in; or it is refused, and its step brings nothing.
-    pub(crate) fn packet(&mut self, body: &[u8], out: &mut [u8]) -> usize
-        requires { 4102 ≤ length out.old }
+    pub(crate) fn packet(&mut self, body: &[u8], out: &mut Room) -> usize
         ensures writes { out.new ≡ writes machine (running_of self.old) (Packet body.now) ++ drop result out.old }
         ensures next { running_of self.new ≡ next machine (running_of self.old) (Packet body.now) }
         ensures small { result ≤ 4102 }
@@ -88,8 +86,7 @@ impl Running {
     }
 
     // An update is taken as a whole, or refused as a whole.
-    pub(crate) fn update(&mut self, heap: Global, body: &[u8], out: &mut [u8]) -> usize
-        requires { 6 ≤ length out.old }
+    pub(crate) fn update(&mut self, heap: Global, body: &[u8], out: &mut Room) -> usize
         ensures does { (g : Frame) × Done (Update body.now) g × (out.new ≡ writes machine (running_of self.old) g ++ drop result out.old) × (running_of self.new ≡ next machine (running_of self.old) g) }
         ensures count { result ≡ 6 }
     {

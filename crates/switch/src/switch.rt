@@ -8,7 +8,7 @@ ghost use Rattle.switch.specs.Starving.{Done};
 
 use crate::loading::load;
 use crate::state::State;
-use crate::writing::{refuse, tell};
+use crate::writing::{Room, refuse, tell};
 use frames::kind::Kind;
 use std::alloc::Global;
 
@@ -31,8 +31,7 @@ impl Switch {
     }
 
     // A source is taken if none was taken before.
-    fn source(&mut self, body: &[u8], out: &mut [u8]) -> usize
-        requires { 6 ≤ length out.old }
+    fn source(&mut self, body: &[u8], out: &mut Room) -> usize
         ensures does { (g : Frame) × Done (Source body.now) g × (out.new ≡ writes machine (mode_of self.old.state) g ++ drop result out.old) × (mode_of self.new.state ≡ next machine (mode_of self.old.state) g) }
         ensures small { result ≤ 6 }
     {
@@ -53,8 +52,7 @@ impl Switch {
     }
 
     // An update of a program that runs.
-    fn update(&mut self, body: &[u8], out: &mut [u8]) -> usize
-        requires { 6 ≤ length out.old }
+    fn update(&mut self, body: &[u8], out: &mut Room) -> usize
         ensures does { (g : Frame) × Done (Update body.now) g × (out.new ≡ writes machine (mode_of self.old.state) g ++ drop result out.old) × (mode_of self.new.state ≡ next machine (mode_of self.old.state) g) }
         ensures small { result ≤ 6 }
     {
@@ -66,8 +64,7 @@ impl Switch {
     }
 
     // A packet has its step, whether it comes in or is refused.
-    fn packet(&mut self, body: &[u8], out: &mut [u8]) -> usize
-        requires { 4102 ≤ length out.old }
+    fn packet(&mut self, body: &[u8], out: &mut Room) -> usize
         ensures writes { out.new ≡ writes machine (mode_of self.old.state) (Packet body.now) ++ drop result out.old }
         ensures next { mode_of self.new.state ≡ next machine (mode_of self.old.state) (Packet body.now) }
         ensures small { result ≤ 4102 }
@@ -80,8 +77,7 @@ impl Switch {
     }
 
     // A step that brings nothing.
-    pub(crate) fn pause(&mut self, out: &mut [u8]) -> usize
-        requires { 4102 ≤ length out.old }
+    pub(crate) fn pause(&mut self, out: &mut Room) -> usize
         ensures writes { out.new ≡ writes machine (mode_of self.old.state) Pause ++ drop result out.old }
         ensures next { mode_of self.new.state ≡ next machine (mode_of self.old.state) Pause }
         ensures small { result ≤ 4102 }
@@ -94,8 +90,7 @@ impl Switch {
     }
 
     // Behind an unknown kind nothing more is read.
-    pub(crate) fn unknown(&mut self, out: &mut [u8]) -> usize
-        requires { 4102 ≤ length out.old }
+    pub(crate) fn unknown(&mut self, out: &mut Room) -> usize
         ensures writes { out.new ≡ writes machine (mode_of self.old.state) Unknown ++ drop result out.old }
         ensures next { mode_of self.new.state ≡ next machine (mode_of self.old.state) Unknown }
         ensures small { result ≤ 4102 }
@@ -110,8 +105,7 @@ impl Switch {
     }
 
     // A whole frame.
-    pub(crate) fn whole(&mut self, kind: Kind, body: &[u8], out: &mut [u8]) -> usize
-        requires { 4102 ≤ length out.old }
+    pub(crate) fn whole(&mut self, kind: Kind, body: &[u8], out: &mut Room) -> usize
         ensures does { (g : Frame) × Done (framed kind body.now) g × (out.new ≡ writes machine (mode_of self.old.state) g ++ drop result out.old) × (mode_of self.new.state ≡ next machine (mode_of self.old.state) g) }
         ensures small { result ≤ 4102 }
     {

@@ -2,18 +2,19 @@
 ghost use Rattle.std.specs.Prelude.{◌≡◌, ◌≤◌, ◌++◌, length, drop};
 ghost use Rattle.stream.specs.Writing.{told, refused};
 
+use crate::feeding::LONGEST_ANSWER;
+
+// Room for whatever a frame is answered.
+pub(crate) type Room = [u8; LONGEST_ANSWER];
+
 // A source or an update is answered by its code and offset.
 pub(crate) fn tell(out: &mut [u8], code: u8, offset: usize) -> usize
     requires { 6 ≤ length out.old }
     ensures writes { out.new ≡ told code offset ++ drop result out.old }
     ensures count { result ≡ 6 }
 {
-    out[0] = 17;
-    out[1] = code;
-    out[2] = (offset / 16777216 % 256) as u8;
-    out[3] = (offset / 65536 % 256) as u8;
-    out[4] = (offset / 256 % 256) as u8;
-    out[5] = (offset % 256) as u8;
+    let [_, _, _, _, a, b, c, d] = offset.to_be_bytes();
+    out[..6].copy_from_slice(&[17, code, a, b, c, d]);
     6
 }
 
@@ -23,7 +24,6 @@ pub(crate) fn refuse(out: &mut [u8], code: u8) -> usize
     ensures writes { out.new ≡ refused code ++ drop result out.old }
     ensures count { result ≡ 2 }
 {
-    out[0] = 18;
-    out[1] = code;
+    out[..2].copy_from_slice(&[18, code]);
     2
 }

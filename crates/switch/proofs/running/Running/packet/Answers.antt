@@ -1,4 +1,5 @@
-use Rattle.std.proofs.Common.{◌≡◌, ℕ, List, ◌++◌, drop, Ok, Err, sym, ap, ◌∙◌, arith}
+use Rattle.std.proofs.Common.{◌≡◌, ℕ, ◌-◌, List, ◌++◌, length, take, drop, Ok, Err, sym, ap, ◌∙◌, arith}
+use borrow.Rule.Slice.PartMut.{put_mid}
 use Rattle.std.proofs.lemmas.List.{take_rest}
 use Rattle.model.specs.Packet.{Packet, Departure, besides}
 use Rattle.model.specs.Pipeline.{Comes, leaves}
@@ -54,9 +55,11 @@ returns-in-Err c =
     let mid : List ℕ = c.refuse-told.new.out in
     let n = c.refuse-told.result in
     let r = c.leave-in-Err.result in
-    let wrote : c.leave-in-Err.new.out ≡ sent_all f' xs ++ drop r (drop n mid) = c.leave-in-Err.ensures.writes ∙ ap (λ (l : List ℕ). sent_all f' xs ++ drop r l) (take_rest mid n) in
+    let long : 4102 ≡ length mid = omega arith in
+    let wrote : c.leave-in-Err.new.out ≡ sent_all f' xs ++ drop r (drop n mid) =
+    c.leave-in-Err.ensures.writes ∙ ap (λ (l : List ℕ). sent_all f' xs ++ drop r l) (ap (λ (k : ℕ). take (k - n) (drop n mid)) long ∙ take_rest mid n) in
     record {
-      writes = refused_writes f f' c.args.body.now e xs (leaves (pipeline_of self.pipeline)) c.args.out.now mid c.leave-in-Err.new.out c.code.result n r
+      writes = ap (λ (k : ℕ). put_mid n (k - n) mid c.leave-in-Err.new.out) long ∙ refused_writes f f' c.args.body.now e xs (leaves (pipeline_of self.pipeline)) c.args.out.now mid c.leave-in-Err.new.out c.code.result n r
           parses same c.idle-left.ensures.leaves c.code.ensures c.refuse-told.ensures.count c.refuse-told.ensures.writes wrote;
       next = refused_next f f' c.args.body.now e (pipeline_of self.pipeline) (pipeline_of c.idle-left.new.self) parses same c.idle-left.ensures.does;
       small = omega (arith, c.refuse-told.ensures.count, c.leave-in-Err.ensures.small);
