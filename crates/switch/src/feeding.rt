@@ -9,6 +9,7 @@ use crate::state::State;
 use crate::stepping::Progress;
 use crate::switch::Switch;
 use crate::writing::{refuse, tell};
+use codes::code::Code;
 use frames::front::Next;
 use frames::kind::Kind;
 use frames::reader::next;
@@ -74,7 +75,7 @@ fn cut(out: &mut [u8], kind: Kind) -> usize
     ensures small { result ≤ 6 }
 {
     match kind {
-        Kind::Source | Kind::Update => tell(out, 1, 0),
-        Kind::Packet => refuse(out, 1),
+        Kind::Source | Kind::Update => tell(out, Code::Bytes, 0),
+        Kind::Packet => refuse(out, Code::Bytes),
     }
 }

@@ -11,6 +11,8 @@ ghost use Rattle.switch.specs.Starving.{Done};
 use crate::running::Running;
 use crate::sending::send;
 use crate::writing::{Room, refuse, tell};
+use codes::answer::Answer;
+use codes::code::Code;
 use packet::format::Format;
 use pipeline::answer::{Left, Updated};
 use pipeline::packet::Incoming;
@@ -93,11 +95,11 @@ impl Running {
         let loaded = self.pipeline.loaded();
         match decode(heap, &loaded.declarations, body) {
             Ok(edits) => match self.pipeline.update(edits) {
-                Updated::Taken => tell(out, 0, 0),
-                Updated::OldPacketUnderWay => tell(out, 12, 0),
+                Updated::Taken => tell(out, Code::Taken, 0),
+                Updated::OldPacketUnderWay => tell(out, Code::Version, 0),
             },
             Err(fault) => {
-                let (code, offset) = fault.answer();
+                let Answer { code, offset } = fault.answer();
                 tell(out, code, offset)
             }
         }

@@ -9,6 +9,8 @@ ghost use Rattle.switch.specs.Starving.{Done};
 use crate::loading::load;
 use crate::state::State;
 use crate::writing::{Room, refuse, tell};
+use codes::answer::Answer;
+use codes::code::Code;
 use frames::kind::Kind;
 use std::alloc::Global;
 
@@ -39,14 +41,14 @@ impl Switch {
             State::Unloaded => match load(self.heap, body) {
                 Ok(running) => {
                     self.state = State::Running(running);
-                    tell(out, 0, 0)
+                    tell(out, Code::Taken, 0)
                 }
                 Err(refusal) => {
-                    let (code, offset) = refusal.answer();
+                    let Answer { code, offset } = refusal.answer();
                     tell(out, code, offset)
                 }
             },
-            State::Running(_) => tell(out, 13, 0),
+            State::Running(_) => tell(out, Code::Program, 0),
             State::Stopped => 0,
         }
     }
@@ -57,7 +59,7 @@ impl Switch {
         ensures small { result ≤ 6 }
     {
         match &mut self.state {
-            State::Unloaded => tell(out, 13, 0),
+            State::Unloaded => tell(out, Code::Program, 0),
             State::Running(running) => running.update(self.heap, body, out),
             State::Stopped => 0,
         }
@@ -70,7 +72,7 @@ impl Switch {
         ensures small { result ≤ 4102 }
     {
         match &mut self.state {
-            State::Unloaded => refuse(out, 13),
+            State::Unloaded => refuse(out, Code::Program),
             State::Running(running) => running.packet(body, out),
             State::Stopped => 0,
         }
@@ -99,7 +101,7 @@ impl Switch {
             State::Stopped => 0,
             State::Unloaded | State::Running(_) => {
                 self.state = State::Stopped;
-                refuse(out, 1)
+                refuse(out, Code::Bytes)
             }
         }
     }

@@ -14,6 +14,7 @@ use Rattle.pipeline.specs.Pipeline.{pipeline_of, loaded_of, departed_of, spare_o
 use Rattle.pipeline.specs.declared.loaded.Loaded.{Loaded}
 use Rattle.stream.specs.Answering.{take_apart}
 use Rattle.stream.specs.Writing.{sent_all}
+use Rattle.codes.specs.Codes.{number_of}
 use Rattle.switch.specs.Stands.{running_format}
 use Rattle.switch.proofs.Presence.{comes_carried}
 use Rattle.switch.proofs.Serves.{comes_writes, comes_next, refused_writes, refused_next}
@@ -59,7 +60,7 @@ returns-in-Err c =
     let wrote : c.leave-in-Err.new.out ≡ sent_all f' xs ++ drop r (drop n mid) =
     c.leave-in-Err.ensures.writes ∙ ap (λ (l : List ℕ). sent_all f' xs ++ drop r l) (ap (λ (k : ℕ). take (k - n) (drop n mid)) long ∙ take_rest mid n) in
     record {
-      writes = ap (λ (k : ℕ). put_mid n (k - n) mid c.leave-in-Err.new.out) long ∙ refused_writes f f' c.args.body.now e xs (leaves (pipeline_of self.pipeline)) c.args.out.now mid c.leave-in-Err.new.out c.code.result n r
+      writes = ap (λ (k : ℕ). put_mid n (k - n) mid c.leave-in-Err.new.out) long ∙ refused_writes f f' c.args.body.now e xs (leaves (pipeline_of self.pipeline)) c.args.out.now mid c.leave-in-Err.new.out (number_of c.code.result) n r
           parses same c.idle-left.ensures.leaves c.code.ensures c.refuse-told.ensures.count c.refuse-told.ensures.writes wrote;
       next = refused_next f f' c.args.body.now e (pipeline_of self.pipeline) (pipeline_of c.idle-left.new.self) parses same c.idle-left.ensures.does;
       small = omega (arith, c.refuse-told.ensures.count, c.leave-in-Err.ensures.small);

@@ -12,6 +12,7 @@ use Rattle.update.specs.Decoding as decoding
 use Rattle.update.specs.Stands.{Refuses}
 use Rattle.stream.specs.Answering.{decode}
 use Rattle.stream.specs.Frames as frames
+use Rattle.codes.specs.Codes.{number_of}
 use Rattle.switch.specs.Stands.{running_format}
 use Rattle.switch.proofs.Serves.{update_writes_lem, update_next, refuses_faulty, faulty_done}
 use Rattle.switch.proofs.running.Running.update.Goals as goal
@@ -61,7 +62,7 @@ returns-in-Err c =
     let refuses : Refuses c.in-Err.fault (decode f c.args.body.now) =
     subst (λ (l : Loaded). Refuses c.in-Err.fault (decoding.decoded (declarations_of l.declarations) (vec_len l.declarations.tables) c.args.body.now)) c.loaded-loaded.ensures c.in-Err.ensures in
     record {
-      does = faulty_done f c.args.body.now (pipeline_of self.pipeline) c.in-Err.fault c.answer-code.result.0 c.answer-code.result.1 c.args.out.now c.tell-in-Err.new.out c.tell-in-Err.result
+      does = faulty_done f c.args.body.now (pipeline_of self.pipeline) c.in-Err.fault (number_of c.answer-code.result.code) c.answer-code.result.offset c.args.out.now c.tell-in-Err.new.out c.tell-in-Err.result
           (refuses_faulty c.in-Err.fault (decode f c.args.body.now) refuses) (ap (λ (x : ℕ × ℕ). x.0) c.answer-code.ensures) (ap (λ (x : ℕ × ℕ). x.1) c.answer-code.ensures) c.tell-in-Err.ensures.writes;
       count = c.tell-in-Err.ensures.count;
     }

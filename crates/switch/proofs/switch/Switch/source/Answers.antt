@@ -1,5 +1,6 @@
 use Rattle.std.proofs.Common.{ℕ, List, ◌++◌, drop, refl, ap, ◌∙◌, inl, arith}
 use Rattle.stream.specs.Frames.{Source}
+use Rattle.codes.specs.Codes.{number_of}
 use Rattle.switch.proofs.Loads.{load_refused}
 use Rattle.switch.proofs.switch.Switch.source.Goals as goal
 
@@ -13,7 +14,7 @@ returns-in-Ok c =
 pub returns-in-Err : goal.returns-in-Err
 returns-in-Err c =
     rw c.in-Unloaded.is (record {
-      does = load_refused c.in-Err.refusal c.args.body.now c.args.out.now c.tell-in-Err.new.out c.answer-code.result.0 c.answer-code.result.1 c.tell-in-Err.result
+      does = load_refused c.in-Err.refusal c.args.body.now c.args.out.now c.tell-in-Err.new.out (number_of c.answer-code.result.code) c.answer-code.result.offset c.tell-in-Err.result
           c.in-Err.ensures c.answer-code.ensures c.tell-in-Err.ensures.writes;
       small = omega (arith, c.tell-in-Err.ensures.count);
     })
