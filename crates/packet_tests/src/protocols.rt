@@ -59,7 +59,10 @@ const BITS: &[u8; 27] = b"\x08\x10\x20\x10\x20\x10\x03\x01\x0c\x10\
 pub fn widths() -> Result<Widths, Fail> {
     let mut of = [Width { bits: 0 }; 64];
     for (width, bits) in of.iter_mut().zip(BITS.iter()) {
-        *width = Width::new(*bits).ok_or(Fail::new("too wide"))?;
+        let Some(bits) = Width::new(*bits) else {
+            return Err(Fail::new("too wide"));
+        };
+        *width = bits;
     }
     Ok(Widths { of })
 }
