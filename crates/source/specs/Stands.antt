@@ -177,7 +177,7 @@ in_table_of (intable.TableClose n) = state.TableClose n
 
 abbrev pub in_field_of : FieldPhase → state.FieldPhase
 in_field_of infield.Named = state.Named
-in_field_of (infield.Behind h f at) = state.Behind (number_of h) (number_of f) at
+in_field_of (infield.Behind m) = state.Behind (number_of m.header) (number_of m.field) m.at
 in_field_of (infield.Member h) = state.Member h.at
 in_field_of (infield.Past f) = state.Past f.at
 

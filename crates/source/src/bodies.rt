@@ -4,7 +4,7 @@ ghost use Rattle.token.specs.Stands.{token_of};
 ghost use Rattle.program.specs.Stands.{operand_of, action_of, test_of};
 ghost use Rattle.source.specs.declared.fault.Fault.TheVariants.{Memory};
 ghost use Rattle.source.specs.Bodies.{add_row, put_row, set_blocks, set_applied, begin as begin_at, opened as opened_at, innermost, others, behind_row, closing as closing_at, closed as closed_at, statement as statement_at, applying as applying_at, apply_name, change as change_of, ask as ask_of, settle as settle_at, behind_yes as behind_yes_at};
-ghost use Rattle.source.specs.Stands.{adds_of, less_of, seen_of, row_of, block_of, blocks_of, fork_of, detour_of, goal_of, some_block_of};
+ghost use Rattle.source.specs.Stands.{adds_of, less_of, seen_of, row_of, block_of, fork_of, goal_of, some_block_of};
 ghost use Rattle.source.specs.Does.{Does};
 
 use crate::block::{Block, Detour, Fork, TableSet};

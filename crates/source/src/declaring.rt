@@ -1,13 +1,12 @@
 // Headers and their fields.
-ghost use Rattle.std.specs.Prelude.{◌≡◌, ◌+◌, ◌≤◌, length, MatchResult};
+ghost use Rattle.std.specs.Prelude.{◌≡◌, ◌+◌, MatchResult};
 ghost use Rattle.token.specs.Stands.{token_of};
 ghost use Rattle.program.specs.Stands.{FieldNo, HeaderNo};
 ghost use Rattle.source.specs.declared.fault.Fault.TheVariants.{Memory};
 ghost use Rattle.source.specs.Names.{entry_of, field_of};
-ghost use Rattle.source.specs.Steps.{room as room_at};
-ghost use Rattle.source.specs.Declaring.{is_out, header_taken, field_taken, add_header, add_field, set_width, header_name, field_name, field_width, in_header as in_header_at, whole_bytes, more_bits};
+ghost use Rattle.source.specs.Declaring.{is_out, field_taken, add_header, add_field, set_width, header_name, field_name, field_width, in_header as in_header_at, whole_bytes, more_bits};
 ghost use Rattle.source.specs.Stands.{names_of, seen_of, in_header_of};
-ghost use Rattle.source.specs.Does.{Does, Gives};
+ghost use Rattle.source.specs.Does.{Does};
 
 use crate::fault::Fault;
 use crate::looks::{expect, fresh, is_sign, number, room, word};
@@ -22,8 +21,7 @@ use token::token::{Sign, Token};
 pub fn is_out(word: &[u8]) -> bool
     ensures { result ≡ is_out word.now }
 {
-    let out: &[u8] = b"out";
-    word == out
+    word == b"out".as_slice()
 }
 
 impl Names {

@@ -3,7 +3,7 @@ ghost use Rattle.std.specs.Prelude.{◌≡◌, ℕ, cond, List, is_some};
 ghost use Rattle.std.specs.Borrow.{Bor};
 ghost use Rattle.token.specs.Stands.{token_of, kind_of};
 ghost use Rattle.program.specs.declared.field.No.{No};
-ghost use Rattle.source.specs.Steps.{is_sign, is_end, number_of, says as says_of, sign as sign_at, keyword as keyword_at, word as word_at, number as number_at, fresh as fresh_at, room as room_at, Step, stop};
+ghost use Rattle.source.specs.Steps.{is_sign, is_end, number_of, says as says_of, sign as sign_at, keyword as keyword_at, word as word_at, number as number_at, fresh as fresh_at, room as room_at, stop};
 ghost use Rattle.source.specs.Does.{Passes, Gives};
 ghost use Rattle.source.specs.Names.{name_of};
 ghost use Rattle.source.specs.declared.fault.Fault.TheVariants.{Unawaited};

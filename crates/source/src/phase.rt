@@ -50,7 +50,7 @@ pub enum Purpose {
     Operand(Goal),
 }
 
-// A header whose fields are being read, and their bits so far: 257 stands for all that are too many.
+// A header whose fields are being read, and their bits so far: 257 stands for all that are too many (no plainer as an Option: each sum would have two cases, and both are one refusal).
 #[derive(Clone, Copy)]
 pub struct Filling {
     pub header: HeaderNo,
@@ -98,15 +98,19 @@ pub enum TablePhase {
     TableClose(u16),
 }
 
-// A field's name; what stands behind it, with the header and the field that it may name; the name behind a dot; what stands behind a field.
+// The header and the field that a name may stand for, and its offset.
+#[derive(Clone, Copy)]
+pub struct Meaning {
+    pub header: Option<HeaderNo>,
+    pub field: Option<FieldNo>,
+    pub at: usize,
+}
+
+// A field's name; what stands behind it, with what it may mean; the name behind a dot; what stands behind a field.
 #[derive(Clone, Copy)]
 pub enum FieldPhase {
     Named,
-    Behind {
-        header: Option<HeaderNo>,
-        field: Option<FieldNo>,
-        at: usize,
-    },
+    Behind(Meaning),
     Member(HeaderNo),
     Past(FieldNo),
 }

@@ -1,5 +1,5 @@
 // The first header, and the choices behind headers.
-ghost use Rattle.std.specs.Prelude.{◌≡◌, ◌+◌, map, is_some, None, MatchResult, slice_index_or};
+ghost use Rattle.std.specs.Prelude.{◌≡◌, ◌+◌, is_some, None, MatchResult};
 ghost use Rattle.token.specs.Stands.{token_of};
 ghost use Rattle.source.specs.declared.fault.Fault.TheVariants.{Memory};
 ghost use Rattle.source.specs.Names.{find, number_of, number_of};
@@ -26,13 +26,6 @@ impl Names {
     }
 }
 
-// Whether a header has a choosing field.
-fn is_chosen(by: [Option<FieldNo>; 8], header: HeaderNo) -> bool
-    ensures { result ≡ is_some (slice_index_or (map number_of by) header.at None) }
-{
-    by[header.at as usize].is_some()
-}
-
 // A header that is not declared yet.
 fn later(word: &[u8], at: usize) -> Next
     ensures { next_of result ≡ later_of word.now at }
@@ -56,10 +49,11 @@ impl Seen {
         self.routes.by[header.at as usize] = Some(field);
     }
 
+    // Whether a header has a choosing field.
     fn has_by(&self, header: HeaderNo) -> bool
         ensures { result ≡ has_by header.at (seen_of self.now) }
     {
-        is_chosen(self.routes.by, header)
+        self.routes.by[header.at as usize].is_some()
     }
 
     fn add_choice(&mut self, choice: Choice) -> Result<(), Fault>

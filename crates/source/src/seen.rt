@@ -33,6 +33,7 @@ pub struct Choice {
 }
 
 // The header that comes first, the choosing field of each header, and the choices in the order of the source.
+// No plainer beside the headers' names: the names live on in what is compiled, and the routes don't.
 #[derive(Drop)]
 pub struct Routes {
     pub first: Option<HeaderNo>,
@@ -50,6 +51,7 @@ pub struct Tables {
 }
 
 // Statements, open blocks, the tables that may have been applied on a path to here, whether `do` was read, and the offset of its `}`.
+// No plainer as an Option: `do` is begun long before its end is known, and who takes `end` would have to answer for none.
 #[derive(Drop)]
 pub struct Body {
     pub rows: Vec<Statement>,

@@ -1,14 +1,13 @@
 // Tables.
-ghost use Rattle.std.specs.Prelude.{◌≡◌, length, MatchResult};
+ghost use Rattle.std.specs.Prelude.{◌≡◌, MatchResult};
 ghost use Rattle.token.specs.Stands.{token_of};
 ghost use Rattle.program.specs.Stands.{TableNo};
 ghost use Rattle.source.specs.declared.fault.Fault.TheVariants.{Memory};
 ghost use Rattle.source.specs.Names.{entry_of};
-ghost use Rattle.source.specs.Steps.{room as room_at};
-ghost use Rattle.source.specs.Tabling.{table_taken, add_table, declare as declare_at, table_name, list_start, lines as lines_at, in_table as in_table_at};
+ghost use Rattle.source.specs.Tabling.{add_table, declare as declare_at, table_name, list_start, lines as lines_at, in_table as in_table_at};
 ghost use Rattle.source.specs.Using.{behind_list, add_listed};
-ghost use Rattle.source.specs.Stands.{names_of, seen_of, part_of, in_table_of};
-ghost use Rattle.source.specs.Does.{Does, Gives};
+ghost use Rattle.source.specs.Stands.{seen_of, part_of, in_table_of};
+ghost use Rattle.source.specs.Does.{Does};
 
 use crate::fault::Fault;
 use crate::looks::{expect, expect_word, fresh, is_sign, number, room, word};

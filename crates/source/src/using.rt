@@ -2,7 +2,7 @@
 ghost use Rattle.std.specs.Prelude.{◌≡◌};
 ghost use Rattle.token.specs.Stands.{token_of};
 ghost use Rattle.source.specs.Names.{number_of, number_of};
-ghost use Rattle.source.specs.Using.{bare as bare_of, only_if, header_for, field_for, field_named, has_room, has_room_for, past as past_at, behind_name, member as member_at, in_field as in_field_at};
+ghost use Rattle.source.specs.Using.{bare as bare_of, header_for, field_for, field_named, has_room, has_room_for, past as past_at, behind_name, member as member_at, in_field as in_field_at};
 ghost use Rattle.source.specs.State as state;
 ghost use Rattle.source.specs.Stands.{names_of, seen_of, part_of, purpose_of, in_field_of};
 ghost use Rattle.source.specs.Does.{Does};
@@ -12,7 +12,7 @@ use crate::fault::Fault;
 use crate::looks::{expect, is_sign, word};
 use crate::lookup::{field, only};
 use crate::phase::{
-    BodyPhase, Choosing, FieldPhase, Goal, Part, Phase, Purpose, Relation, RoutePhase,
+    BodyPhase, Choosing, FieldPhase, Goal, Meaning, Part, Phase, Purpose, Relation, RoutePhase,
 };
 use crate::seen::{Names, Seen};
 use crate::tabling::behind_list;
@@ -67,14 +67,12 @@ impl Seen {
         let word = word(x)?;
         let header = self.names.header_for(purpose, word);
         let field = self.names.field_for(purpose, word);
-        Ok(Phase::InField(
-            purpose,
-            FieldPhase::Behind {
-                header,
-                field,
-                at: x.at,
-            },
-        ))
+        let meaning = Meaning {
+            header,
+            field,
+            at: x.at,
+        };
+        Ok(Phase::InField(purpose, FieldPhase::Behind(meaning)))
     }
 
     fn has_room(&self, part: Part) -> bool
@@ -147,21 +145,20 @@ impl Seen {
     fn behind_name(
         &mut self,
         purpose: Purpose,
-        header: Option<HeaderNo>,
-        field: Option<FieldNo>,
-        at: usize,
+        meaning: Meaning,
         x: Token<'_>,
     ) -> Result<Phase, Fault>
-        ensures { Does (behind_name (purpose_of purpose) (number_of header) (number_of field) at (seen_of self.old) (token_of x.entry)) result self.new }
+        ensures { Does (behind_name (purpose_of purpose) (number_of meaning.header) (number_of meaning.field) meaning.at (seen_of self.old) (token_of x.entry)) result self.new }
     {
+        let at = meaning.at;
         if is_sign(x, Sign::Dot) {
-            let header = header.ok_or(Fault::Name { at })?;
+            let header = meaning.header.ok_or(Fault::Name { at })?;
             if !self.has_room_for(purpose) {
                 return Err(Fault::Count { at });
             }
             return Ok(Phase::InField(purpose, FieldPhase::Member(header)));
         }
-        let field = field.ok_or(Fault::Name { at })?;
+        let field = meaning.field.ok_or(Fault::Name { at })?;
         if !self.has_room_for(purpose) {
             return Err(Fault::Count { at });
         }
@@ -186,9 +183,7 @@ impl Seen {
     {
         match phase {
             FieldPhase::Named => self.field_named(purpose, x),
-            FieldPhase::Behind { header, field, at } => self.behind_name(
-                purpose, header, field, at, x,
-            ),
+            FieldPhase::Behind(meaning) => self.behind_name(purpose, meaning, x),
             FieldPhase::Member(header) => self.member(purpose, header, x),
             FieldPhase::Past(field) => self.past(purpose, field, x),
         }
