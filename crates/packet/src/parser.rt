@@ -6,7 +6,7 @@ ghost use Rattle.packet.specs.Parsing.{read_fields, read_header, behind as behin
 ghost use Rattle.packet.specs.Stands.{fields_of, next_of, header_of, outcome_of, widths_in, headers_in};
 ghost use Rattle.packet.specs.Progress.{reached};
 
-use crate::bits::number_at;
+use crate::bits::Bytes;
 use crate::choosing::{behind, comes};
 use crate::format::Format;
 use crate::parsed::{Parsed, Refused};
@@ -35,6 +35,7 @@ impl Format<'_> {
         if bytes.len() > LONGEST {
             return Err(Refused::TooLong);
         }
+        let packet = Bytes { all: bytes };
         let mut progress = Progress {
             fields: Fields { of: [0; 64] },
             present: 0,
@@ -43,7 +44,7 @@ impl Format<'_> {
         };
         for (number, header) in self.headers.all.iter().enumerate() {
             if comes(progress.next, number) {
-                self.read(&mut progress, number, header, bytes)?;
+                self.read(&mut progress, number, header, &packet)?;
             }
         }
         Ok(Parsed {
@@ -59,22 +60,23 @@ impl Format<'_> {
         progress: &mut Progress,
         number: usize,
         header: &Header,
-        bytes: &[u8],
+        bytes: &Bytes<'_>,
     ) -> Result<(), Refused>
         requires known { number < 8 }
-        requires short { length bytes.now ≤ 2048 }
-        requires within { progress.old.at ≤ length bytes.now }
-        ensures stays { progress.new.at ≤ length bytes.now }
-        ensures fits { MatchResult result (λ _. size_in (widths_in self.now) (header_of header.now) ≤ length (drop progress.old.at bytes.now)) (λ e. (e ≡ Refused.EndsWithinHeader) × (length (drop progress.old.at bytes.now) < size_in (widths_in self.now) (header_of header.now))) }
-        ensures reads { OnOk result (reached progress.new bytes.now ≡ read_header (widths_in self.now) number (header_of header.now) (reached progress.old bytes.now)) }
-        ensures turns { OnOk result (next_of progress.new.next ≡ behind_in (header_of header.now) (reached progress.new bytes.now)) }
+        requires within { progress.old.at ≤ length bytes.now.all.now }
+        ensures stays { progress.new.at ≤ length bytes.now.all.now }
+        ensures fits { MatchResult result (λ _. size_in (widths_in self.now) (header_of header.now) ≤ length (drop progress.old.at bytes.now.all.now)) (λ e. (e ≡ Refused.EndsWithinHeader) × (length (drop progress.old.at bytes.now.all.now) < size_in (widths_in self.now) (header_of header.now))) }
+        ensures reads { OnOk result (reached progress.new bytes.now.all.now ≡ read_header (widths_in self.now) number (header_of header.now) (reached progress.old bytes.now.all.now)) }
+        ensures turns { OnOk result (next_of progress.new.next ≡ behind_in (header_of header.now) (reached progress.new bytes.now.all.now)) }
     {
-        let left = &bytes[progress.at..];
+        let left = Bytes {
+            all: &bytes.all[progress.at..],
+        };
         let taken = self.size(header);
-        if left.len() < taken {
+        if left.all.len() < taken {
             return Err(Refused::EndsWithinHeader);
         }
-        self.read_fields(header, left, &mut progress.fields);
+        self.read_fields(header, &left, &mut progress.fields);
         progress.present = with(progress.present, number);
         progress.next = behind(header, &progress.fields);
         progress.at += taken;
@@ -82,15 +84,15 @@ impl Format<'_> {
     }
 
     // A header's fields are read from the front of the bytes.
-    fn read_fields(&self, header: &Header, bytes: &[u8], fields: &mut Fields)
-        requires short { length bytes.now ≤ 2048 }
-        requires within { bit_count (widths_in self.now) (header_of header.now).count (header_of header.now).first ≤ 8 * length bytes.now }
-        ensures { fields_of fields.new ≡ read_fields (widths_in self.now) (header_of header.now).count (header_of header.now).first (bits_of bytes.now) (fields_of fields.old) }
+    fn read_fields(&self, header: &Header, bytes: &Bytes<'_>, fields: &mut Fields)
+        requires { bit_count (widths_in self.now) (header_of header.now).count (header_of header.now).first ≤ 8 * length bytes.now.all.now }
+        ensures { fields_of fields.new ≡ read_fields (widths_in self.now) (header_of header.now).count (header_of header.now).first (bits_of bytes.now.all.now) (fields_of fields.old) }
     {
         let mut at = 0usize;
+        // By number: a proof does not know what a `for` over `&mut` has written.
         for field in header.from..header.from + header.fields {
             let width = self.widths.get(FieldNo { at: field });
-            fields.of[field as usize] = number_at(bytes, at, width);
+            fields.of[field as usize] = bytes.number_at(at, width);
             at += width.bits as usize;
         }
     }

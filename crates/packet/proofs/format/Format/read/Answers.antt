@@ -7,7 +7,7 @@ use Rattle.packet.proofs.format.Format.read.Goals as goal
 
 pub returns-then-left-taken : goal.returns-then-left-taken
 returns-then-left-taken c =
-    let rest : take (length c.args.bytes.now - c.args.progress.now.at) (drop c.args.progress.now.at c.args.bytes.now) ≡ drop c.args.progress.now.at c.args.bytes.now = take_rest c.args.bytes.now c.args.progress.now.at in
+    let rest : take (length c.args.bytes.now.all.now - c.args.progress.now.at) (drop c.args.progress.now.at c.args.bytes.now.all.now) ≡ drop c.args.progress.now.at c.args.bytes.now.all.now = take_rest c.args.bytes.now.all.now c.args.progress.now.at in
     record {
       stays = c.requires.within;
       fits = (refl, omega (arith, ap length rest, c.if-left-taken.true, c.size-taken.ensures.value));
@@ -18,7 +18,7 @@ returns-then-left-taken c =
 pub returns : goal.returns
 returns c =
     let W : Widths = widths_of c.args.self.now.widths.now in
-    let bs : List ℕ = c.args.bytes.now in
+    let bs : List ℕ = c.args.bytes.now.all.now in
     let at : ℕ = c.args.progress.now.at in
     let rest : take (length bs - at) (drop at bs) ≡ drop at bs = take_rest bs at in
     record {
@@ -31,3 +31,7 @@ returns c =
       };
       turns = c.behind-progress.ensures;
     }
+
+pub invariant_of-left : goal.invariant_of-left
+invariant_of-left c =
+    record { short = omega (arith, ap length (take_rest c.args.bytes.now.all.now c.args.progress.now.at), length-drop c.args.progress.now.at c.args.bytes.now.all.now, c.args.bytes.now.short) }
