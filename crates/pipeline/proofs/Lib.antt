@@ -1,5 +1,7 @@
 pub mod Turns
-pub mod Store
+pub mod Places
 pub mod Shift
 pub mod Shifted
 pub mod OneStep
+pub mod Renewed
+pub mod Start

@@ -6,7 +6,8 @@ use Rattle.model.specs.Version.{Version}
 use Rattle.model.specs.Pipeline as model
 use Rattle.model.proofs.Slots.{worked_length}
 use Rattle.pipeline.specs.Apart.{apart, distinct}
-use Rattle.pipeline.specs.Stands.{View, place_of, places_of, slot_of, slots_of}
+use Rattle.pipeline.specs.Slots.{place_of, places_of}
+use Rattle.pipeline.specs.Stands.{View, slot_of, slots_of}
 use Rattle.pipeline.specs.declared.slot.Slot.{Slot}
 use Rattle.pipeline.proofs.Shift.{Elsewhere, slots_same, distinct_turned}
 use Rattle.pipeline.proofs.Shifted.{shifted_row, shifted_last}

@@ -5,9 +5,9 @@ use Rattle.std.proofs.lemmas.Bool.{eqb-false, not-true, and_parts, and_from, ne_
 use Rattle.model.specs.Version.{Version}
 use Rattle.model.specs.Pipeline as model
 use Rattle.pipeline.specs.Apart.{apart, distinct}
-use Rattle.pipeline.specs.Stands.{transit, View, place_of, places_of, slot_of, slots_of}
+use Rattle.pipeline.specs.Slots.{place_of, places_of}
+use Rattle.pipeline.specs.Stands.{View, held, slot_of, slots_of}
 use Rattle.pipeline.specs.declared.slot.Slot.{Slot}
-use Rattle.pipeline.specs.declared.slot.Slot.TheVariants.{Free, Holds}
 
 -- a number among others that are all different is apart from those before it and behind it
 pub apart_before : (p : ℕ) (xs ys : List ℕ) → distinct (xs ++ (p ∷ ys)) ≡ true → apart p xs ≡ true
@@ -45,8 +45,7 @@ abbrev pub Elsewhere : ℕ → (ℕ → View) → (ℕ → View) → Type 0
 Elsewhere p old new = (j : ℕ) → (j ≡ p → ⊥) → new j ≡ old j
 
 slot_same : (p : ℕ) (old new : ℕ → View) (x : Slot) → Elsewhere p old new → (place_of x ≡ p → ⊥) → slot_of new x ≡ slot_of old x
-slot_same p old new (Free q) same ne = refl
-slot_same p old new (Holds q n) same ne = ap (λ (w : View). model.Holds (transit w.packet n) w.version) (same q.at ne)
+slot_same p old new x same ne = ap (λ (w : View). held w x.node) (same (place_of x) ne)
 
 pub slots_same : (p : ℕ) (old new : ℕ → View) (xs : List Slot) → Elsewhere p old new → apart p (places_of xs) ≡ true → slots_of new xs ≡ slots_of old xs
 slots_same p old new [] same h = refl

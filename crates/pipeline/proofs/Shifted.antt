@@ -1,6 +1,6 @@
 -- From the slots behind a step to the model's step: all but the last, and the last.
-use Rattle.std.proofs.Common.{◌≡◌, ℕ, ◌+◌, ◌<◌, ◌≤◌, Bool, false, ◌||◌, List, [], ◌∷◌, ◌++◌, length, get_or, drop, sym, refl, ap, ◌∙◌, arith}
-use Rattle.std.proofs.lemmas.List.{drop_more, drop_all}
+use Rattle.std.proofs.Common.{◌≡◌, ℕ, ◌<◌, Bool, ◌||◌, List, [], ◌∷◌, ◌++◌, length, sym, refl, ap, ◌∙◌, arith}
+use Rattle.std.specs.List.{list_any}
 use Rattle.model.specs.Pipeline.{Slot, one_bit, last_of, but_last, older_slot, any_older}
 use Rattle.pipeline.specs.Stands.{View, slot_of, slots_of}
 use Rattle.pipeline.specs.declared.slot.Slot as code
@@ -28,13 +28,8 @@ unfolding last_of
 shifted_last xs [] c x h e = absurd (omega arith)
 shifted_last xs (y ∷ ys) c x h e = sym (last_push xs c) ∙ ap last_of e
 
--- the loop that looks for an older packet
-pub older_more : (s : ℕ → View) (newest : Bool) (xs : List code.Slot) (k : ℕ) (x : code.Slot) → k < length xs → x ≡ get_or xs k x →
-    any_older one_bit newest (slots_of s (drop k xs)) ≡ (older_slot one_bit newest (slot_of s x) || any_older one_bit newest (slots_of s (drop (k + 1) xs)))
+-- whether a packet in a slot is older, as the library's word says it
+pub older_is : (s : ℕ → View) (newest : Bool) (xs : List code.Slot) → any_older one_bit newest (slots_of s xs) ≡ list_any (λ (x : code.Slot). older_slot one_bit newest (slot_of s x)) xs
 unfolding any_older
-older_more s newest xs k x h is =
-    ap (λ (l : List code.Slot). any_older one_bit newest (slots_of s l)) (drop_more xs k x h ∙ ap (λ (y : code.Slot). y ∷ drop (k + 1) xs) (sym is))
-
-pub older_end : (s : ℕ → View) (newest : Bool) (xs : List code.Slot) (k : ℕ) → length xs ≤ k → any_older one_bit newest (slots_of s (drop k xs)) ≡ false
-unfolding any_older
-older_end s newest xs k h = ap (λ (l : List code.Slot). any_older one_bit newest (slots_of s l)) (drop_all k xs h)
+older_is s newest [] = refl
+older_is s newest (x ∷ xs) = ap (λ (b : Bool). older_slot one_bit newest (slot_of s x) || b) (older_is s newest xs)

@@ -1,3 +1,4 @@
 pub mod Apart
+pub mod Slots
 pub mod Stands
 pub mod Pipeline

@@ -1,30 +1,27 @@
 -- What a pipeline of the code stands for: a pipeline of the model whose versions are told apart by one bit.
-use Rattle.std.specs.Prelude.{Bool, List, [], ◌∷◌, vec_items}
+use Rattle.std.specs.Prelude.{Bool, List, ◌∷◌, Ok, Err, Result}
 use Rattle.model.specs.Packet as packet
 use Rattle.model.specs.Answer as answer
 use Rattle.model.specs.Pipeline as model
-use Rattle.pipeline.specs.Stands.{versions_of, store_of, slots_of}
-use Rattle.pipeline.specs.declared.answer.Left.{Left}
-use Rattle.pipeline.specs.declared.answer.Left.TheVariants as left
-use Rattle.pipeline.specs.declared.answer.Updated.{Updated}
-use Rattle.pipeline.specs.declared.answer.Updated.TheVariants as updated
+use Rattle.pipeline.specs.Stands.{versions_of, stored_in, slot_of, slots_of}
+use Rattle.pipeline.specs.declared.answer.OldPacketUnderWay.{OldPacketUnderWay}
 use Rattle.pipeline.specs.declared.loaded.Loaded.{Loaded}
 use Rattle.pipeline.specs.declared.pipeline.Pipeline.{Pipeline}
 
 abbrev pub pipeline_of : Pipeline → model.Pipeline Bool
 pipeline_of p = record {
-  slots = slots_of (store_of (vec_items p.store)) p.slots.row;
-  versions = versions_of p.loaded p.tables p.newest;
-  newest = p.newest;
+  slots = slots_of (stored_in p.store) p.slots.row;
+  versions = versions_of p.versions;
+  newest = p.versions.newest;
 }
 
 -- the program that runs
 abbrev pub loaded_of : Pipeline → Loaded
-loaded_of p = p.loaded
+loaded_of p = p.versions.loaded
 
--- the packet at the spare place
-abbrev pub spare_of : Pipeline → packet.Packet
-spare_of p = (store_of (vec_items p.store) p.spare.at).packet
+-- what has left in the last step
+abbrev pub departed_of : Pipeline → List packet.Departure
+departed_of p = model.departing (slot_of (stored_in p.store) p.spare)
 
 -- a pipeline whose slots have all been worked on and moved on by one, behind x
 abbrev pub shifted : model.Slot Bool → model.Pipeline Bool → model.Pipeline Bool
@@ -34,11 +31,6 @@ shifted x c = record {
   newest = c.newest;
 }
 
--- what has left, if it is this packet
-abbrev pub departed_of : Left → packet.Packet → List packet.Departure
-departed_of left.Nothing p = []
-departed_of left.Packet p = packet.departs p
-
-abbrev pub answer_of : Updated → answer.UpdateAnswer
-answer_of updated.Taken = answer.Taken
-answer_of updated.OldPacketUnderWay = answer.OldPacketUnderWay
+abbrev pub answer_of : Result (Unit {0}) OldPacketUnderWay → answer.UpdateAnswer
+answer_of (Ok u) = answer.Taken
+answer_of (Err e) = answer.OldPacketUnderWay

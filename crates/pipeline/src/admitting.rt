@@ -1,6 +1,6 @@
 // What comes is put at the spare place of the store.
-ghost use Rattle.std.specs.Prelude.{◌≡◌, Bool};
-ghost use Rattle.pipeline.specs.Stands.{view_of, incoming_of, View};
+ghost use Rattle.std.specs.Prelude.{◌≡◌};
+ghost use Rattle.pipeline.specs.Stands.{view_of, incoming_of};
 
 use crate::packet::{Incoming, Stored};
 

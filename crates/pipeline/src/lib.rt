@@ -12,4 +12,7 @@ pub mod slot;
 pub mod stage;
 mod starting;
 mod stepping;
-mod work;
+pub mod store;
+mod storing;
+mod versioning;
+pub mod versions;

@@ -18,12 +18,12 @@ impl Loaded {
     pub(crate) fn node_at(&self, at: u16) -> Node
         ensures { node_of result ≡ node_at (nodes_of self.now.nodes.items) at }
     {
-        if at as usize >= self.nodes.len() {
-            return Node {
+        match self.nodes.get(at as usize) {
+            Some(node) => *node,
+            None => Node {
                 stage: 0,
                 does: Does::Halt,
-            };
+            },
         }
-        self.nodes[at as usize]
     }
 }

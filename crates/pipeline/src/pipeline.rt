@@ -1,23 +1,19 @@
 // The pipeline as a value.
-ghost use Rattle.std.specs.Prelude.{◌≡◌, true, ◌∷◌, vec_len};
+ghost use Rattle.std.specs.Prelude.{◌≡◌, true, ◌∷◌};
 ghost use Rattle.pipeline.specs.Apart.{distinct};
-ghost use Rattle.pipeline.specs.Stands.{places_of};
+ghost use Rattle.pipeline.specs.Slots.{place_of, places_of};
 
-use crate::loaded::Loaded;
-use crate::packet::Stored;
-use crate::slot::{Place, Slots};
-use table::store::Tables;
+use crate::slot::{Slot, Slots};
+use crate::store::Store;
+use crate::versions::Versions;
 
-// A program, its tables in two versions, twelve slots, and a store with one place more. The spare place serves the packet that comes next;
-// until then it has the packet that has left. No two slots share a place, and none has the spare one.
+// A program and its tables in two versions, twelve slots, and a store with one place more. The spare place serves the packet that comes next;
+// until then it has the packet that has left in the last step, if one did. No two slots share a place, and none has the spare one.
 #[derive(Drop)]
 pub struct Pipeline {
-    pub(crate) loaded: Loaded,
-    pub(crate) tables: Tables,
+    pub(crate) versions: Versions,
     pub(crate) slots: Slots,
-    pub(crate) spare: Place,
-    pub(crate) store: Vec<Stored>,
-    pub(crate) newest: bool,
-    ghost apart: { distinct (spare.at ∷ places_of slots.row) ≡ true },
-    ghost stored: { vec_len store ≡ 13 },
+    pub(crate) spare: Slot,
+    pub(crate) store: Store,
+    ghost apart: { distinct (place_of spare ∷ places_of slots.row) ≡ true },
 }

@@ -1,18 +1,14 @@
 // Slots, and the places of the store where their packets stand.
-ghost use Rattle.std.specs.Prelude.{◌<◌};
+use program::field::No;
 
 // A place of the store: one more than there are slots.
-#[derive(Clone, Copy)]
-pub struct Place {
-    pub at: u8,
-    ghost ok: { at < 13 },
-}
+pub type Place = No<13>;
 
 // Every slot has a place of the store, also while it is free. A packet under way is at a node.
-#[derive(Clone, Copy)]
-pub enum Slot {
-    Free { place: Place },
-    Holds { place: Place, node: u16 },
+#[derive(Clone, Copy, Debug, PartialEq, Eq)]
+pub struct Slot {
+    pub place: Place,
+    pub node: Option<u16>,
 }
 
 // One slot for each stage.

@@ -23,7 +23,7 @@ mod row;
 mod step;
 
 // Why a program is not placed: a node finds no stage or is one too many, and the smallest offset of such a node; or memory is wanting.
-#[derive(Clone, Copy)]
+#[derive(Clone, Copy, Debug, PartialEq, Eq)]
 pub enum Fault {
     NoRoom(u32),
     NoMemory,

@@ -1,7 +1,7 @@
 // Room on the stages: how much one holds, and the first that has room for one node more.
-ghost use Rattle.std.specs.Prelude.{◌≡◌, ◌^◌, ◌<◌, ◌≤◌, max, not, ◌&&◌, ◌==◌};
+ghost use Rattle.std.specs.Prelude.{◌≡◌, ◌^◌, ◌<◌, ◌≤◌, max, not, ◌&&◌, ◌==◌, count_by};
 ghost use Rattle.model.specs.Node.{halts, looks};
-ghost use Rattle.model.specs.Placement.{nodes_on, tables_on, has_room, limited, beyond};
+ghost use Rattle.model.specs.Placement.{has_room, limited, beyond};
 ghost use Rattle.program.specs.Stands.{does_of, nodes_of};
 
 use program::node::{Does, Node};
@@ -33,24 +33,16 @@ fn has_room(row: &[Node], table: bool, stage: u16) -> bool
 
 // Nodes on a stage, halts not counted.
 fn nodes_on(row: &[Node], stage: u16) -> usize
-    ensures { result ≡ nodes_on stage (nodes_of row.now) }
+    ensures { result ≡ count_by (λ n. n.stage == stage && not (halts (does_of n.does))) row.now }
 {
-    let mut count = 0;
-    for node in row {
-        count += usize::from(is_on(*node, stage));
-    }
-    count
+    row.iter().filter(|node| is_on(**node, stage)).count()
 }
 
 // Tables on a stage.
 fn tables_on(row: &[Node], stage: u16) -> usize
-    ensures { result ≡ tables_on stage (nodes_of row.now) }
+    ensures { result ≡ count_by (λ n. n.stage == stage && looks (does_of n.does)) row.now }
 {
-    let mut count = 0;
-    for node in row {
-        count += usize::from(is_table_on(*node, stage));
-    }
-    count
+    row.iter().filter(|node| is_table_on(**node, stage)).count()
 }
 
 // Whether a node takes room on a stage.

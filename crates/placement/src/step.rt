@@ -1,11 +1,12 @@
 // A program seen from one of its statements on, with skips followed.
-ghost use Rattle.std.specs.Prelude.{◌≡◌, ◌+◌, ◌<◌, min, length};
+ghost use Rattle.std.specs.Prelude.{◌≡◌};
 ghost use Rattle.model.specs.Statements.{paths_at};
 ghost use Rattle.program.specs.Stands.{statements_of};
 ghost use Rattle.placement.specs.Steps.{paths_of_step};
 
 use program::action::{Action, Test};
 use program::field::TableNo;
+use program::jumping::landing;
 use program::statement::{Kind, Statement};
 
 // What stands there: the end; an action or a table, and the index at which the path goes on; or an if, and the indices at which its two paths go on.
@@ -34,7 +35,7 @@ pub(crate) fn step_at(statements: &[Statement], from: usize, end: u32) -> Step
         let offset = statement.offset;
         let next = at + 1;
         match statement.kind {
-            Kind::Skip { past } => at = landing(statements, at, past),
+            Kind::Skip { past } => at = landing(statements.len(), at, past),
             Kind::Act(action) => {
                 let kind = StepKind::Act { action, next };
                 return Step { offset, kind };
@@ -45,7 +46,7 @@ pub(crate) fn step_at(statements: &[Statement], from: usize, end: u32) -> Step
             }
             Kind::If { test, past } => {
                 let yes = next;
-                let no = landing(statements, at, past);
+                let no = landing(statements.len(), at, past);
                 let kind = StepKind::If { test, yes, no };
                 return Step { offset, kind };
             }
@@ -55,14 +56,4 @@ pub(crate) fn step_at(statements: &[Statement], from: usize, end: u32) -> Step
         offset: end,
         kind: StepKind::End,
     }
-}
-
-// Where a jump from an index lands: `past` statements behind the next one, at most at the end.
-fn landing(statements: &[Statement], at: usize, past: u32) -> usize
-    requires { at < length statements.now }
-    ensures { result ≡ min (length statements.now) (at + 1 + past) }
-{
-    let next = at + 1;
-    let left = statements.len() - next;
-    next + left.min(past as usize)
 }

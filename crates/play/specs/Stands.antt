@@ -1,5 +1,5 @@
 -- What events and outcomes stand for in the model.
-use Rattle.std.specs.Prelude.{List, [], map, vec_items}
+use Rattle.std.specs.Prelude.{List, [], map, Some, None, vec_items}
 use Rattle.model.specs.Packet as packet
 use Rattle.model.specs.Pipeline as model
 use Rattle.program.specs.Stands.{over}
@@ -21,8 +21,8 @@ abbrev pub events_of : List Event → List model.Event
 events_of es = map event_of es
 
 abbrev pub outcome_of : Outcome → promised.Outcome
-outcome_of outcomes.Nothing = promised.Sends []
-outcome_of (outcomes.Leaves p) = promised.Sends (packet.departs (packet_of p))
+outcome_of (outcomes.Sent None) = promised.Sends []
+outcome_of (outcomes.Sent (Some p)) = promised.Sends (packet.departs (packet_of p))
 outcome_of (outcomes.Answered u) = promised.Answers (answer_of u)
 
 abbrev pub outcomes_of : List Outcome → List promised.Outcome

@@ -1,5 +1,5 @@
 // What happens to a pipeline, and what comes of it.
-use pipeline::answer::Updated;
+use pipeline::answer::OldPacketUnderWay;
 use pipeline::packet::Packet;
 use program::field::Fields;
 use table::entry::Edit;
@@ -12,10 +12,9 @@ pub enum Event {
     Update(Vec<Edit>),
 }
 
-// What a step sends, and what an update is answered.
+// What a step sends, if a packet leaves, and what an update is answered.
 #[derive(Clone, Copy)]
 pub enum Outcome {
-    Nothing,
-    Leaves(Packet),
-    Answered(Updated),
+    Sent(Option<Packet>),
+    Answered(Result<(), OldPacketUnderWay>),
 }

@@ -1,6 +1,6 @@
 // The worked cases, run through the code.
 use crate::sample::{always, both, declarations, fitting, packet, two_tables};
-use pipeline::answer::Updated;
+use pipeline::answer::OldPacketUnderWay;
 use placement::place;
 use play::event::{Event, Outcome};
 use play::playing::play;
@@ -113,10 +113,14 @@ fn told_of(
     let mut answers = Vec::new(heap);
     for (at, outcome) in outcomes.iter().enumerate() {
         match outcome {
-            Outcome::Nothing => {}
-            Outcome::Leaves(packet) => seen.push((at, packet.fields.of[2], packet.fields.of[3]))?,
-            Outcome::Answered(Updated::Taken) => answers.push(0u8)?,
-            Outcome::Answered(Updated::OldPacketUnderWay) => answers.push(12u8)?,
+            Outcome::Sent(None) => {}
+            Outcome::Sent(Some(packet)) => seen.push((
+                at,
+                packet.fields.of[2],
+                packet.fields.of[3],
+            ))?,
+            Outcome::Answered(Ok(())) => answers.push(0u8)?,
+            Outcome::Answered(Err(OldPacketUnderWay)) => answers.push(12u8)?,
         }
     }
     assert!(rt; seen.as_slice() == left);
@@ -171,7 +175,7 @@ fn modulo_width(rt: HostRuntime) -> Result<(), Fail> {
     let Some(outcome) = outcomes.get(12) else {
         return Err(Fail::new("there is no step 12"));
     };
-    let Outcome::Leaves(packet) = *outcome else {
+    let Outcome::Sent(Some(packet)) = *outcome else {
         return Err(Fail::new("nothing left at step 12"));
     };
     assert!(rt; packet.fields.of[1] == 44);

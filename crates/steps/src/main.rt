@@ -6,7 +6,7 @@ mod cases;
 mod sample;
 
 use anyhow::anyhow;
-use pipeline::answer::Updated;
+use pipeline::answer::OldPacketUnderWay;
 use play::event::{Event, Outcome};
 use play::playing::play;
 
@@ -59,15 +59,15 @@ fn tell(rt: &HostRuntime, step: usize, event: &Event) -> anyhow::Result<()> {
 
 fn show(rt: &HostRuntime, outcome: &Outcome) -> anyhow::Result<()> {
     match outcome {
-        Outcome::Nothing => println!(rt; "")?,
-        Outcome::Leaves(packet) => {
+        Outcome::Sent(None) => println!(rt; "")?,
+        Outcome::Sent(Some(packet)) => {
             let f = packet.fields.of[1];
             let a = packet.fields.of[2];
             let b = packet.fields.of[3];
             println!(rt; "; packet {f} leaves with a = {a}, b = {b}")?
         }
-        Outcome::Answered(Updated::Taken) => println!(rt; ": taken")?,
-        Outcome::Answered(Updated::OldPacketUnderWay) => println!(rt;
+        Outcome::Answered(Ok(())) => println!(rt; ": taken")?,
+        Outcome::Answered(Err(OldPacketUnderWay)) => println!(rt;
             ": refused, an older packet is under way"
         )?,
     }

@@ -1,6 +1,6 @@
 // Frames of a program that runs.
 ghost use Rattle.std.specs.Prelude.{◌≡◌, ◌<◌, ◌≤◌, ◌++◌, length, drop};
-ghost use Rattle.pipeline.specs.Pipeline.{departed_of, spare_of};
+ghost use Rattle.pipeline.specs.Pipeline.{departed_of};
 ghost use Rattle.stream.specs.Answering.{writes, next};
 ghost use Rattle.stream.specs.Frames.{Frame, Update, Packet, Pause};
 ghost use Rattle.stream.specs.Machines.{pipeline as machine};
@@ -14,7 +14,7 @@ use crate::writing::{Room, refuse, tell};
 use codes::answer::Answer;
 use codes::code::Code;
 use packet::format::Format;
-use pipeline::answer::{Left, Updated};
+use pipeline::answer::OldPacketUnderWay;
 use pipeline::packet::Incoming;
 use std::alloc::Global;
 use update::decoding::decode;
@@ -29,22 +29,17 @@ fn eight(present: u8) -> u8
 
 impl Running {
     // What has left in a step is sent.
-    fn leave(&self, left: Left, out: &mut [u8]) -> usize
+    fn leave(&self, out: &mut [u8]) -> usize
         requires { 4100 ≤ length out.old }
-        ensures writes { out.new ≡ sent_all (running_format self.now) (departed_of left (spare_of self.now.pipeline)) ++ drop result out.old }
+        ensures writes { out.new ≡ sent_all (running_format self.now) (departed_of self.now.pipeline) ++ drop result out.old }
         ensures small { result ≤ 4100 }
     {
-        match left {
-            Left::Nothing => 0,
-            Left::Packet => {
+        match self.pipeline.last() {
+            Some(packet) => {
                 let loaded = self.pipeline.loaded();
-                send(
-                    out,
-                    &self.headers,
-                    &loaded.declarations,
-                    self.pipeline.last(),
-                )
+                send(out, &self.headers, &loaded.declarations, packet)
             }
+            None => 0,
         }
     }
 
@@ -54,8 +49,8 @@ impl Running {
         ensures next { running_of self.new ≡ next machine (running_of self.old) Pause }
         ensures small { result ≤ 4100 }
     {
-        let left = self.pipeline.idle();
-        self.leave(left, out)
+        self.pipeline.idle();
+        self.leave(out)
     }
 
     // A packet is taken apart and comes in; or it is refused, and its step brings nothing.
@@ -72,17 +67,17 @@ impl Running {
         let parsed = format.parse(body);
         match parsed {
             Ok(parsed) => {
-                let left = self.pipeline.step(Incoming {
+                self.pipeline.step(Incoming {
                     fields: &parsed.fields,
                     present: eight(parsed.present),
                     payload: parsed.payload,
                 });
-                self.leave(left, out)
+                self.leave(out)
             }
             Err(refused) => {
                 let told = refuse(out, refused.code());
-                let left = self.pipeline.idle();
-                told + self.leave(left, &mut out[told..])
+                self.pipeline.idle();
+                told + self.leave(&mut out[told..])
             }
         }
     }
@@ -95,8 +90,8 @@ impl Running {
         let loaded = self.pipeline.loaded();
         match decode(heap, &loaded.declarations, body) {
             Ok(edits) => match self.pipeline.update(edits) {
-                Updated::Taken => tell(out, Code::Taken, 0),
-                Updated::OldPacketUnderWay => tell(out, Code::Version, 0),
+                Ok(()) => tell(out, Code::Taken, 0),
+                Err(OldPacketUnderWay) => tell(out, Code::Version, 0),
             },
             Err(fault) => {
                 let Answer { code, offset } = fault.answer();

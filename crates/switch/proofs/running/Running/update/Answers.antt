@@ -17,12 +17,12 @@ use Rattle.switch.specs.Stands.{running_format}
 use Rattle.switch.proofs.Serves.{update_writes_lem, update_next, refuses_faulty, faulty_done}
 use Rattle.switch.proofs.running.Running.update.Goals as goal
 
-pub returns-in-Taken : goal.returns-in-Taken
-returns-in-Taken c =
+pub returns-in-Ok-update : goal.returns-in-Ok-update
+returns-in-Ok-update c =
     let self = c.args.self.now in
     let f : Format = running_format self in
     let f' : Format = format_of self.headers (loaded_of c.update.new.self).declarations in
-    let same : f' ≡ f = ap (λ (l : Loaded). format_of self.headers l.declarations) c.in-Taken.ensures.program in
+    let same : f' ≡ f = ap (λ (l : Loaded). format_of self.headers l.declarations) c.in-Ok-update.ensures.program in
     let reads : decode f c.args.body.now ≡ decoded.Taken (edits_of (vec_items c.in-Ok.edits)) =
     ap (λ (l : Loaded). decoding.decoded (declarations_of l.declarations) (vec_len l.declarations.tables) c.args.body.now) (sym c.loaded-loaded.ensures) ∙ c.in-Ok.ensures in
     record {
@@ -30,29 +30,29 @@ returns-in-Taken c =
         frames.Update c.args.body.now,
         inl refl,
         update_writes_lem f c.args.body.now (edits_of (vec_items c.in-Ok.edits)) Taken (takes one_bit (pipeline_of self.pipeline)) c.args.out.now c.tell.new.out c.tell.result
-            reads c.in-Taken.ensures.answers c.tell.ensures.writes,
-        update_next f f' c.args.body.now (edits_of (vec_items c.in-Ok.edits)) (pipeline_of self.pipeline) (pipeline_of c.update.new.self) reads same c.in-Taken.ensures.does,
+            reads c.in-Ok-update.ensures.answers c.tell.ensures.writes,
+        update_next f f' c.args.body.now (edits_of (vec_items c.in-Ok.edits)) (pipeline_of self.pipeline) (pipeline_of c.update.new.self) reads same c.in-Ok-update.ensures.does,
       );
       count = c.tell.ensures.count;
     }
 
-pub returns-in-OldPacketUnderWay : goal.returns-in-OldPacketUnderWay
-returns-in-OldPacketUnderWay c =
+pub returns-in-Err-update : goal.returns-in-Err-update
+returns-in-Err-update c =
     let self = c.args.self.now in
     let f : Format = running_format self in
     let f' : Format = format_of self.headers (loaded_of c.update.new.self).declarations in
-    let same : f' ≡ f = ap (λ (l : Loaded). format_of self.headers l.declarations) c.in-OldPacketUnderWay.ensures.program in
+    let same : f' ≡ f = ap (λ (l : Loaded). format_of self.headers l.declarations) c.in-Err-update.ensures.program in
     let reads : decode f c.args.body.now ≡ decoded.Taken (edits_of (vec_items c.in-Ok.edits)) =
     ap (λ (l : Loaded). decoding.decoded (declarations_of l.declarations) (vec_len l.declarations.tables) c.args.body.now) (sym c.loaded-loaded.ensures) ∙ c.in-Ok.ensures in
     record {
       does = (
         frames.Update c.args.body.now,
         inl refl,
-        update_writes_lem f c.args.body.now (edits_of (vec_items c.in-Ok.edits)) OldPacketUnderWay (takes one_bit (pipeline_of self.pipeline)) c.args.out.now c.tell-in-OldPacketUnderWay.new.out c.tell-in-OldPacketUnderWay.result
-            reads c.in-OldPacketUnderWay.ensures.answers c.tell-in-OldPacketUnderWay.ensures.writes,
-        update_next f f' c.args.body.now (edits_of (vec_items c.in-Ok.edits)) (pipeline_of self.pipeline) (pipeline_of c.update.new.self) reads same c.in-OldPacketUnderWay.ensures.does,
+        update_writes_lem f c.args.body.now (edits_of (vec_items c.in-Ok.edits)) OldPacketUnderWay (takes one_bit (pipeline_of self.pipeline)) c.args.out.now c.tell-in-Err-update.new.out c.tell-in-Err-update.result
+            reads c.in-Err-update.ensures.answers c.tell-in-Err-update.ensures.writes,
+        update_next f f' c.args.body.now (edits_of (vec_items c.in-Ok.edits)) (pipeline_of self.pipeline) (pipeline_of c.update.new.self) reads same c.in-Err-update.ensures.does,
       );
-      count = c.tell-in-OldPacketUnderWay.ensures.count;
+      count = c.tell-in-Err-update.ensures.count;
     }
 
 pub returns-in-Err : goal.returns-in-Err

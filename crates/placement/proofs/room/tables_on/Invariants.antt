@@ -1,8 +1,0 @@
-use Rattle.std.proofs.Common.{◌≡◌, ◌+◌, ◌≤◌, drop}
-use Rattle.model.specs.Placement.{tables_on}
-use Rattle.program.specs.Stands.{nodes_of}
-use Rattle.placement.proofs.room.tables_on.Given as goal
-
--- what is counted, and what is yet to come
-abbrev pub invariant-loop-node : goal.invariant-loop-node
-invariant-loop-node l = (l.count ≤ l.node-index) × (l.count + tables_on l.stage (nodes_of (drop l.node-index l.row)) ≡ tables_on l.stage (nodes_of l.row))
