@@ -11,6 +11,7 @@ ghost use Rattle.compiler.specs.Stands.{program_of};
 ghost use Rattle.model.specs.Stopping.{placement as placement_of};
 
 use crate::compiled::Program;
+use crate::limited::Limited;
 use crate::packaging::packaged;
 use crate::refusal::Refusal;
 use placement::{Fault as Misplaced, place};
@@ -33,7 +34,7 @@ fn read(heap: Global, source: &[u8]) -> Result<Program, Refusal>
         (λ f. Unreadable f (read_source source.now)) }
 {
     match see(heap, source) {
-        Ok(seen) => packaged(heap, seen),
+        Ok(seen) => packaged(heap, Limited { seen }),
         Err(Fault::Memory) => Err(Refusal::Memory),
         Err(fault) => Err(Refusal::Unread(fault)),
     }

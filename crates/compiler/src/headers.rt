@@ -1,15 +1,15 @@
 // The headers of a program.
-ghost use Rattle.std.specs.Prelude.{◌≡◌, ◌+◌, ◌<◌, ◌≤◌, map, length, IfOk, None, vec_len, slice_index_or};
+ghost use Rattle.std.specs.Prelude.{◌≡◌, ◌+◌, ◌≤◌, map, length, IfOk, None, vec_len, slice_index_or};
 ghost use Rattle.packet.specs.Stands.{header_of, headers_of};
 ghost use Rattle.source.specs.Names.{fields_of, number_of};
 ghost use Rattle.source.specs.Stands.{seen_of};
 ghost use Rattle.compiler.specs.Packaging.{fields_in, fields_before, header as header_in, headers_from};
 
 use crate::after::after;
+use crate::limited::Limited;
 use program::field::FieldNo;
 use program::headers::{Header, HeaderNo, Headers};
 use source::name::FieldName;
-use source::seen::Seen;
 use std::alloc::{AllocError, Global};
 
 // How many fields the headers before one have, and how many it has itself.
@@ -36,22 +36,26 @@ fn counted(fields: &[FieldName], number: u8) -> Span
 }
 
 // The choosing field of a header.
-fn chooser(by: [Option<FieldNo>; 8], number: u8) -> Option<FieldNo>
-    requires { number < 8 }
-    ensures { number_of result ≡ slice_index_or (map number_of by) number None }
+fn chooser(by: [Option<FieldNo>; 8], header: HeaderNo) -> Option<FieldNo>
+    ensures { number_of result ≡ slice_index_or (map number_of by) header.at None }
 {
-    by[number as usize]
+    by[header.at as usize]
 }
 
 // One header: its fields, and what comes behind it.
-fn header(heap: Global, seen: &Seen, number: u8) -> Result<Header, AllocError>
-    requires few { vec_len seen.now.names.fields ≤ 63 }
-    requires known { number < 8 }
-    ensures { IfOk result (λ h. header_of h ≡ header_in (seen_of seen.now) number) }
+fn header(heap: Global, limited: &Limited, header: HeaderNo) -> Result<Header, AllocError>
+    ensures { IfOk result (λ h. header_of h ≡ header_in (seen_of limited.now.seen) header.at) }
 {
-    let span = counted(&seen.names.fields, number);
-    let by = chooser(seen.routes.by, number);
-    let after = after(heap, &seen.names.headers, number, by, &seen.routes.choices)?;
+    let seen = &limited.seen;
+    let span = counted(&seen.names.fields, header.at);
+    let by = chooser(seen.routes.by, header);
+    let after = after(
+        heap,
+        &seen.names.headers,
+        header.at,
+        by,
+        &seen.routes.choices,
+    )?;
     Ok(Header {
         from: (span.before + 1) as u8,
         fields: span.own as u8,
@@ -60,15 +64,18 @@ fn header(heap: Global, seen: &Seen, number: u8) -> Result<Header, AllocError>
 }
 
 // All headers in the order of the source, and the one that comes first.
-pub(crate) fn headers(heap: Global, seen: &Seen, first: HeaderNo) -> Result<Headers, AllocError>
-    requires fields { vec_len seen.now.names.fields ≤ 63 }
-    requires headers { vec_len seen.now.names.headers ≤ 8 }
-    ensures all { IfOk result (λ hs. headers_of hs ≡ headers_from (seen_of seen.now) 0 (vec_len seen.now.names.headers)) }
+pub(crate) fn headers(
+    heap: Global,
+    limited: &Limited,
+    first: HeaderNo,
+) -> Result<Headers, AllocError>
+    ensures all { IfOk result (λ hs. headers_of hs ≡ headers_from (seen_of limited.now.seen) 0 (vec_len limited.now.seen.names.headers)) }
     ensures first { IfOk result (λ hs. hs.first.at ≡ first.at) }
 {
     let mut all = Vec::new(heap);
-    for number in 0..seen.names.headers.len() {
-        all.push(header(heap, seen, number as u8)?)?;
+    for number in 0..limited.seen.names.headers.len() {
+        let no = HeaderNo { at: number as u8 };
+        all.push(header(heap, limited, no)?)?;
     }
     Ok(Headers { all, first })
 }

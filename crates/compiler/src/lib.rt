@@ -5,5 +5,6 @@ mod after;
 pub mod compiled;
 pub mod compiling;
 mod headers;
+mod limited;
 mod packaging;
 pub mod refusal;

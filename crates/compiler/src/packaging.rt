@@ -1,5 +1,5 @@
 // From what was read of a source to the program that it gives.
-ghost use Rattle.std.specs.Prelude.{◌≡◌, ◌≤◌, vec_len, MatchResult};
+ghost use Rattle.std.specs.Prelude.{◌≡◌, MatchResult};
 ghost use Rattle.source.specs.Names.{number_of};
 ghost use Rattle.source.specs.Stands.{seen_of};
 ghost use Rattle.compiler.specs.declared.refusal.Refusal.TheVariants.{Memory};
@@ -8,6 +8,7 @@ ghost use Rattle.compiler.specs.Stands.{program_of};
 
 use crate::compiled::Program;
 use crate::headers::headers;
+use crate::limited::Limited;
 use crate::refusal::Refusal;
 use program::declarations::Declarations;
 use program::headers::HeaderNo;
@@ -24,23 +25,23 @@ fn first(named: Option<HeaderNo>) -> HeaderNo
     }
 }
 
-pub(crate) fn packaged(heap: Global, seen: Seen) -> Result<Program, Refusal>
-    requires fields { vec_len seen.names.fields ≤ 63 }
-    requires headers { vec_len seen.names.headers ≤ 8 }
-    ensures { MatchResult result (λ p. program_of p ≡ packaged_in (seen_of seen)) (λ f. f ≡ Memory) }
+pub(crate) fn packaged(heap: Global, limited: Limited) -> Result<Program, Refusal>
+    ensures { MatchResult result (λ p. program_of p ≡ packaged_in (seen_of limited.seen)) (λ f. f ≡ Memory) }
 {
-    let Ok(end) = u32::try_from(seen.body.end) else {
+    let Ok(end) = u32::try_from(limited.seen.body.end) else {
         return Err(Refusal::Memory);
     };
-    let Ok(headers) = headers(heap, &seen, first(seen.routes.first)) else {
+    let Ok(headers) = headers(heap, &limited, first(limited.seen.routes.first)) else {
         return Err(Refusal::Memory);
     };
-    let Seen {
-        names,
-        routes: _,
-        tables,
-        body,
-    } = seen;
+    let Limited {
+        seen: Seen {
+            names,
+            routes: _,
+            tables,
+            body,
+        },
+    } = limited;
     Ok(Program {
         headers,
         declarations: Declarations {

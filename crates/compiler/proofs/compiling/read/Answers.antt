@@ -6,8 +6,8 @@ use Rattle.limits.proofs.Holding.{limits_hold}
 use Rattle.compiler.proofs.compiling.read.Goals as goal
 
 -- a source that was read keeps the limits
-pub packaged-requires : goal.packaged-requires
-packaged-requires c =
+pub invariant_of-packaged : goal.invariant_of-packaged
+invariant_of-packaged c =
     let seen = c.in-Ok.seen in
     let limits = limits_hold c.args.source.now (seen_of seen) c.in-Ok.ensures in
     let fields : vec_len seen.names.fields ≡ length (seen_of seen).names.fields = seen.names.fields.ok.0 ∙ sym (length-map (vec_items seen.names.fields) field_of) in

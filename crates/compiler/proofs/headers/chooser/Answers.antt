@@ -5,5 +5,5 @@ use Rattle.compiler.proofs.headers.chooser.Goals as goal
 
 pub returns : goal.returns
 returns c =
-    let h : c.args.number < length c.args.by = search rules in
-    sym (get_or-map number_of c.args.by c.args.number c.index-by-number.result None h)
+    let h : c.args.header.at < length c.args.by = search rules in
+    sym (get_or-map number_of c.args.by c.args.header.at c.index-by-header.result None h)

@@ -9,14 +9,14 @@ use Rattle.compiler.proofs.headers.header.Goals as goal
 
 pub returns : goal.returns
 returns c =
-    let seen = c.args.seen.now in
-    let by = get_or (map number_of seen.routes.by) c.args.number None in
-    let cs = choices_of (entries_of (vec_items seen.names.headers)) c.args.number (choices_seen (vec_items seen.routes.choices)) in
-    header_is (c.counted-span.result.before + 1) (fields_before c.args.number (fields_of (vec_items seen.names.fields)) + 1)
-    c.counted-span.result.own (fields_in c.args.number (fields_of (vec_items seen.names.fields)))
+    let seen = c.args.limited.now.seen in
+    let by = get_or (map number_of seen.routes.by) c.args.header.at None in
+    let cs = choices_of (entries_of (vec_items seen.names.headers)) c.args.header.at (choices_seen (vec_items seen.routes.choices)) in
+    header_is (c.counted-span.result.before + 1) (fields_before c.args.header.at (fields_of (vec_items seen.names.fields)) + 1)
+    c.counted-span.result.own (fields_in c.args.header.at (fields_of (vec_items seen.names.fields)))
     (by_of c.in_ok-after.after) (chooser by) (after_of c.in_ok-after.after) (if_after by cs)
-    (ap (λ (n : ℕ). n + 1) (c.counted-span.ensures.before ∙ ap (λ (fs : List FieldName). fields_before c.args.number (fields_of fs)) c.deref.ensures.value))
-    (c.counted-span.ensures.own ∙ ap (λ (fs : List FieldName). fields_in c.args.number (fields_of fs)) c.deref.ensures.value)
+    (ap (λ (n : ℕ). n + 1) (c.counted-span.ensures.before ∙ ap (λ (fs : List FieldName). fields_before c.args.header.at (fields_of fs)) c.deref.ensures.value))
+    (c.counted-span.ensures.own ∙ ap (λ (fs : List FieldName). fields_in c.args.header.at (fields_of fs)) c.deref.ensures.value)
     (c.in_ok-after.ensures.by ∙ ap chooser c.chooser-by.ensures)
-    (c.in_ok-after.ensures.choices ∙ same_choices c.args.number (number_of c.chooser-by.result) by c.deref-2.result.now (vec_items seen.names.headers)
+    (c.in_ok-after.ensures.choices ∙ same_choices c.args.header.at (number_of c.chooser-by.result) by c.deref-2.result.now (vec_items seen.names.headers)
     c.deref-3.result.now (vec_items seen.routes.choices) c.chooser-by.ensures c.deref-2.ensures.value c.deref-3.ensures.value)

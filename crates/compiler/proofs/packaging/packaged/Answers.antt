@@ -10,7 +10,7 @@ use Rattle.compiler.proofs.packaging.packaged.Goals as goal
 
 pub returns : goal.returns
 returns c =
-    let seen = c.args.seen in
+    let seen = c.args.limited.seen in
     let d = seen_of seen in
     let many : vec_len seen.names.headers ≡ length d.names.headers = seen.names.headers.ok.0 ∙ sym (length-map (vec_items seen.names.headers) entry_of) in
     let whole : c.in-Ok.end ≡ seen.body.end = search rules in
