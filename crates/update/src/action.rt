@@ -8,6 +8,7 @@ ghost use Rattle.update.specs.Stands.{Gives, Found, change_of};
 
 use crate::cursor::Cursor;
 use crate::fault::Fault;
+use crate::terms::Terms;
 use program::action::{Action, Operand};
 use program::declarations::{Declarations, TableDeclaration};
 use program::field::{FieldNo, Widths};
@@ -21,17 +22,13 @@ pub(crate) enum Change {
 
 impl Cursor<'_> {
     // One action.
-    pub(crate) fn action(
-        &mut self,
-        declarations: &Declarations,
-        table: &TableDeclaration,
-    ) -> Result<Action, Fault>
-        ensures { Gives (action_at (declarations_of declarations.now) (table_of table.now) self.old.at self.old.rest.now) result action_of self.new.at self.new.rest.now }
+    pub(crate) fn action(&mut self, terms: Terms<'_>) -> Result<Action, Fault>
+        ensures { Gives (action_at (declarations_of terms.entry.declarations.now) (table_of terms.entry.table.now) self.old.at self.old.rest.now) result action_of self.new.at self.new.rest.now }
     {
         let at = self.at;
         let change = change_by(at, self.byte()?)?;
-        let field = self.settable(table)?;
-        let operand = self.operand(declarations)?;
+        let field = self.settable(terms.table)?;
+        let operand = self.operand(terms.declarations)?;
         Ok(changed(change, field, operand))
     }
 

@@ -9,7 +9,8 @@ ghost use Rattle.update.specs.Stands.{Gives, entries_listed, edits_listed};
 
 use crate::cursor::Cursor;
 use crate::fault::Fault;
-use program::declarations::{Declarations, TableDeclaration};
+use crate::terms::Terms;
+use program::declarations::Declarations;
 use program::field::TableNo;
 use std::alloc::Global;
 use table::entry::{Edit, Entry};
@@ -85,26 +86,27 @@ impl Cursor<'_> {
     ) -> Result<Vec<Entry>, Fault>
         ensures { Gives (entries_at (declarations_of declarations.now) ((declarations_of declarations.now).table table.at) count [] self.old.at self.old.rest.now) result entries_listed self.new.at self.new.rest.now }
     {
-        let declared = declarations
+        let table = declarations
             .tables
             .get(table.at as usize)
             .ok_or(Fault::NoMemory)?;
-        self.entries(heap, declarations, declared, count)
+        self.entries(
+            heap,
+            Terms {
+                declarations,
+                table,
+            },
+            count,
+        )
     }
 
     // So many entries of a table.
-    fn entries(
-        &mut self,
-        heap: Global,
-        declarations: &Declarations,
-        table: &TableDeclaration,
-        count: u16,
-    ) -> Result<Vec<Entry>, Fault>
-        ensures { Gives (entries_at (declarations_of declarations.now) (table_of table.now) count [] self.old.at self.old.rest.now) result entries_listed self.new.at self.new.rest.now }
+    fn entries(&mut self, heap: Global, terms: Terms<'_>, count: u16) -> Result<Vec<Entry>, Fault>
+        ensures { Gives (entries_at (declarations_of terms.entry.declarations.now) (table_of terms.entry.table.now) count [] self.old.at self.old.rest.now) result entries_listed self.new.at self.new.rest.now }
     {
         let mut entries = Vec::new(heap);
         for _turn in 0..count {
-            let entry = self.entry(declarations, table)?;
+            let entry = self.entry(terms)?;
             entries.push(entry)?;
         }
         Ok(entries)

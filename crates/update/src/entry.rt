@@ -7,9 +7,9 @@ ghost use Rattle.update.specs.Stands.{Gives, actions_listed, patterns_listed};
 
 use crate::cursor::Cursor;
 use crate::fault::Fault;
+use crate::terms::Terms;
 use arrayvec::ArrayVec;
 use program::action::Action;
-use program::declarations::{Declarations, TableDeclaration};
 use program::field::Width;
 use table::entry::{Entry, Pattern};
 
@@ -27,36 +27,27 @@ impl Cursor<'_> {
     }
 
     // The actions of an entry.
-    fn actions(
-        &mut self,
-        declarations: &Declarations,
-        table: &TableDeclaration,
-        count: u8,
-    ) -> Result<ArrayVec<Action, 4>, Fault>
+    fn actions(&mut self, terms: Terms<'_>, count: u8) -> Result<ArrayVec<Action, 4>, Fault>
         requires { count ≤ 4 }
-        ensures { Gives (actions_at (declarations_of declarations.now) (table_of table.now) count [] self.old.at self.old.rest.now) result actions_listed self.new.at self.new.rest.now }
+        ensures { Gives (actions_at (declarations_of terms.entry.declarations.now) (table_of terms.entry.table.now) count [] self.old.at self.old.rest.now) result actions_listed self.new.at self.new.rest.now }
     {
         let mut actions = ArrayVec::new();
         for _turn in 0..count {
-            actions.push(self.action(declarations, table)?);
+            actions.push(self.action(terms)?);
         }
         Ok(actions)
     }
 
     // A pattern for each field that the table looks at.
-    fn patterns(
-        &mut self,
-        declarations: &Declarations,
-        table: &TableDeclaration,
-    ) -> Result<ArrayVec<Pattern, 4>, Fault>
-        ensures { Gives (patterns_at (declarations_of declarations.now) (table_of table.now).looks [] self.old.at self.old.rest.now) result patterns_listed self.new.at self.new.rest.now }
+    fn patterns(&mut self, terms: Terms<'_>) -> Result<ArrayVec<Pattern, 4>, Fault>
+        ensures { Gives (patterns_at (declarations_of terms.entry.declarations.now) (table_of terms.entry.table.now).looks [] self.old.at self.old.rest.now) result patterns_listed self.new.at self.new.rest.now }
     {
         let mut patterns = ArrayVec::new();
-        for field in &table.looks {
+        for field in &terms.table.looks {
             if patterns.is_full() {
                 return Err(Fault::NoMemory);
             }
-            patterns.push(self.pattern(declarations.widths.get(*field))?);
+            patterns.push(self.pattern(terms.declarations.widths.get(*field))?);
         }
         Ok(patterns)
     }
@@ -71,16 +62,12 @@ impl Cursor<'_> {
     }
 
     // One entry.
-    pub(crate) fn entry(
-        &mut self,
-        declarations: &Declarations,
-        table: &TableDeclaration,
-    ) -> Result<Entry, Fault>
-        ensures { Gives (entry_at (declarations_of declarations.now) (table_of table.now) self.old.at self.old.rest.now) result entry_of self.new.at self.new.rest.now }
+    pub(crate) fn entry(&mut self, terms: Terms<'_>) -> Result<Entry, Fault>
+        ensures { Gives (entry_at (declarations_of terms.entry.declarations.now) (table_of terms.entry.table.now) self.old.at self.old.rest.now) result entry_of self.new.at self.new.rest.now }
     {
-        let patterns = self.patterns(declarations, table)?;
+        let patterns = self.patterns(terms)?;
         let count = self.count()?;
-        let actions = self.actions(declarations, table, count)?;
+        let actions = self.actions(terms, count)?;
         Ok(Entry { patterns, actions })
     }
 }

@@ -7,3 +7,4 @@ pub mod decoding;
 mod edits;
 mod entry;
 pub mod fault;
+mod terms;

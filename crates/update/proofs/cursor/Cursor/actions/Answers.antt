@@ -12,14 +12,14 @@ use Rattle.update.proofs.cursor.Cursor.actions.Goals as goal
 pub returns-in_err-action : goal.returns-in_err-action
 returns-in_err-action c =
     refused_so c.from_residual.result c.in_err-action.field-0.0
-    (actions_at (declarations_of c.args.declarations.now) (table_of c.args.table.now) c.args.count [] c.args.self.now.at c.args.self.now.rest.now) actions_listed c.action.new.self.at c.action.new.self.rest.now
+    (actions_at (declarations_of c.args.terms.declarations.now) (table_of c.args.terms.table.now) c.args.count [] c.args.self.now.at c.args.self.now.rest.now) actions_listed c.action.new.self.at c.action.new.self.rest.now
     c.from_residual.ensures.1
     (λ (k : Then (List action.Action)).
     let some : 0 < c.args.count - c.loop-turn._turn = omega (arith, c.loop-turn-test.true) in
     subst (λ (z : Decoded). Refuses c.in_err-action.field-0.0 z)
-    (sym (actions_more (declarations_of c.args.declarations.now) (table_of c.args.table.now) (c.args.count - c.loop-turn._turn) (actions_of c.loop-turn.actions.items) c.loop-turn.self.at c.loop-turn.self.rest.now k some)
+    (sym (actions_more (declarations_of c.args.terms.declarations.now) (table_of c.args.terms.table.now) (c.args.count - c.loop-turn._turn) (actions_of c.loop-turn.actions.items) c.loop-turn.self.at c.loop-turn.self.rest.now k some)
     ∙ c.loop-turn.invariant.1 k)
-    (c.in_err-action.ensures (λ a behind rest. actions_at (declarations_of c.args.declarations.now) (table_of c.args.table.now) (c.args.count - c.loop-turn._turn - 1) (actions_of c.loop-turn.actions.items ++ (a ∷ [])) behind rest k)))
+    (c.in_err-action.ensures (λ a behind rest. actions_at (declarations_of c.args.terms.declarations.now) (table_of c.args.terms.table.now) (c.args.count - c.loop-turn._turn - 1) (actions_of c.loop-turn.actions.items ++ (a ∷ [])) behind rest k)))
 
 pub loop-turn-preserved : goal.loop-turn-preserved
 loop-turn-preserved c =
@@ -29,10 +29,10 @@ loop-turn-preserved c =
     ap actions_of c.push.ensures.items ∙ map_push action_of c.loop-turn.actions.items c.in_ok-action.field-0 in (
       omega (arith, c.push.ensures.len, c.loop-turn.invariant.0),
       λ k.
-          ap (λ (n : ℕ). actions_at (declarations_of c.args.declarations.now) (table_of c.args.table.now) n (actions_of c.push.new.self.items) c.action.new.self.at c.action.new.self.rest.now k) less
-          ∙ ap (λ (l : List action.Action). actions_at (declarations_of c.args.declarations.now) (table_of c.args.table.now) (c.args.count - c.loop-turn._turn - 1) l c.action.new.self.at c.action.new.self.rest.now k) pushed
-          ∙ sym (c.in_ok-action.ensures (λ a behind rest. actions_at (declarations_of c.args.declarations.now) (table_of c.args.table.now) (c.args.count - c.loop-turn._turn - 1) (actions_of c.loop-turn.actions.items ++ (a ∷ [])) behind rest k))
-          ∙ sym (actions_more (declarations_of c.args.declarations.now) (table_of c.args.table.now) (c.args.count - c.loop-turn._turn) (actions_of c.loop-turn.actions.items) c.loop-turn.self.at c.loop-turn.self.rest.now k some)
+          ap (λ (n : ℕ). actions_at (declarations_of c.args.terms.declarations.now) (table_of c.args.terms.table.now) n (actions_of c.push.new.self.items) c.action.new.self.at c.action.new.self.rest.now k) less
+          ∙ ap (λ (l : List action.Action). actions_at (declarations_of c.args.terms.declarations.now) (table_of c.args.terms.table.now) (c.args.count - c.loop-turn._turn - 1) l c.action.new.self.at c.action.new.self.rest.now k) pushed
+          ∙ sym (c.in_ok-action.ensures (λ a behind rest. actions_at (declarations_of c.args.terms.declarations.now) (table_of c.args.terms.table.now) (c.args.count - c.loop-turn._turn - 1) (actions_of c.loop-turn.actions.items ++ (a ∷ [])) behind rest k))
+          ∙ sym (actions_more (declarations_of c.args.terms.declarations.now) (table_of c.args.terms.table.now) (c.args.count - c.loop-turn._turn) (actions_of c.loop-turn.actions.items) c.loop-turn.self.at c.loop-turn.self.rest.now k some)
           ∙ c.loop-turn.invariant.1 k,
     )
 
@@ -40,4 +40,4 @@ pub returns : goal.returns
 returns c k =
     let none : c.args.count - c.loop-turn._turn ≡ 0 = omega (arith, c.loop-turn-test.false) in
     sym (c.loop-turn.invariant.1 k)
-    ∙ actions_end (declarations_of c.args.declarations.now) (table_of c.args.table.now) (c.args.count - c.loop-turn._turn) (actions_of c.loop-turn.actions.items) c.loop-turn.self.at c.loop-turn.self.rest.now k none
+    ∙ actions_end (declarations_of c.args.terms.declarations.now) (table_of c.args.terms.table.now) (c.args.count - c.loop-turn._turn) (actions_of c.loop-turn.actions.items) c.loop-turn.self.at c.loop-turn.self.rest.now k none

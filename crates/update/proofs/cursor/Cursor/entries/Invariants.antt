@@ -9,5 +9,5 @@ use Rattle.update.proofs.cursor.Cursor.entries.Given as goal
 -- what is left to read, behind what was read, comes to what all comes to
 abbrev pub invariant-loop-turn : goal.invariant-loop-turn
 invariant-loop-turn l = (then : Then (List table.Entry)) →
-    entries_at (declarations_of l.declarations) (table_of l.table) (l.count - l._turn) (entries_of (vec_items l.entries)) l.self.at l.self.rest.now then
-    ≡ entries_at (declarations_of l.declarations) (table_of l.table) l.count [] l.initial.self.at l.initial.self.rest.now then
+    entries_at (declarations_of l.terms.declarations.now) (table_of l.terms.table.now) (l.count - l._turn) (entries_of (vec_items l.entries)) l.self.at l.self.rest.now then
+    ≡ entries_at (declarations_of l.terms.declarations.now) (table_of l.terms.table.now) l.count [] l.initial.self.at l.initial.self.rest.now then
