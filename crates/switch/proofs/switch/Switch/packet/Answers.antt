@@ -1,5 +1,4 @@
 use Rattle.switch.proofs.switch.Switch.packet.Goals as goal
 
-pub returns-in-Running : goal.returns-in-Running
-returns-in-Running c =
-    rw c.in-Running.is (record { writes = c.packet.ensures.writes; next = c.packet.ensures.next; small = c.packet.ensures.small })
+pub returns-in-Running-clause-next : goal.returns-in-Running-clause-next
+returns-in-Running-clause-next c = rw c.in-Running.is c.packet.ensures.next
