@@ -19,10 +19,7 @@ use std::alloc::Global;
 fn first(named: Option<HeaderNo>) -> HeaderNo
     ensures { result.at ≡ or_first (number_of named) }
 {
-    match named {
-        Some(header) => header,
-        None => HeaderNo { at: 0 },
-    }
+    named.unwrap_or(HeaderNo { at: 0 })
 }
 
 pub(crate) fn packaged(heap: Global, limited: Limited) -> Result<Program, Refusal>

@@ -47,6 +47,7 @@ impl fmt::Display for Fault {
     }
 }
 
+// Two errors of the library, and so two impls alike: no trait covers both.
 impl From<AllocError> for Fault {
     ghost from_gives = { λ _ f. f ≡ Memory };
 

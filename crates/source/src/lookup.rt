@@ -7,7 +7,7 @@ use crate::name::{FieldName, Named};
 use program::field::{FieldNo, No};
 use program::headers::HeaderNo;
 
-// The number of a name, of a header or of a table.
+// The number of a name, of a header or of a table. A `for`: no plainer as a chain, whose closure needs clauses of its own in generic code.
 pub fn find<const N: u8>(names: &[Named<N>], word: &[u8]) -> Option<No<N>>
     ensures { number_of result ≡ find (entries_of names.now) word.now }
 {

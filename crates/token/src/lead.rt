@@ -41,7 +41,7 @@ pub fn gap(bytes: &[u8]) -> usize
     }
 }
 
-// The number that digits stand for, and none if they are not all digits. Numbers from 2^32 on all count as that one.
+// The number that digits stand for, and none if they are not all digits. Numbers from 2^32 on all count as that one: a bound of the sum, no plainer as a kind of its own, since `number` tells it apart.
 fn value(base: u32, digits: &[u8]) -> Option<u64>
     requires { (2 ≤ base) × (base ≤ 16) }
     ensures { result ≡ capped (value_behind base 0 digits.now) }
