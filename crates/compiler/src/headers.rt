@@ -73,6 +73,7 @@ pub(crate) fn headers(
     ensures first { IfOk result (λ hs. hs.first.at ≡ first.at) }
 {
     let mut all = Vec::new(heap);
+    // By number: what is made of a header is made of its number.
     for number in 0..limited.seen.names.headers.len() {
         let no = HeaderNo { at: number as u8 };
         all.push(header(heap, limited, no)?)?;

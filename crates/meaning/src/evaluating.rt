@@ -24,6 +24,7 @@ pub fn evaluate(
     ensures { (base : Packet) (end : ℕ) → over fields.new base ≡ means (declarations_of declarations.now) (program_of end (statements_of statements.now)) (tables_of tables.now true) (over fields.old base) }
 {
     let mut at = 0usize;
+    // By index: a jump passes over statements.
     while at < statements.len() {
         at = advance(fields, declarations, tables, statements, at);
     }

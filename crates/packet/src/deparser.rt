@@ -59,6 +59,7 @@ impl Format<'_> {
         ensures { out.new ≡ write_header (widths_in self.now) (header_of header.now) (fields_of fields.now) }
     {
         let mut cursor = Cursor::new();
+        // By number: it names a width and a value, which stand in two arrays.
         for field in header.from..header.from + header.fields {
             cursor = cursor.put(
                 out,

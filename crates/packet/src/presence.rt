@@ -1,4 +1,4 @@
-// Which headers a packet has, one bit each.
+// Which headers a packet has, one bit each. A bare byte: pipeline and switch only carry it, so a type for it would move these two functions to crate program and shorten no clause.
 ghost use Rattle.std.specs.Prelude.{◌≡◌, ◌<◌, true};
 ghost use Rattle.packet.specs.Contents.{with as with_in};
 ghost use Rattle.packet.specs.Stands.{present_of};

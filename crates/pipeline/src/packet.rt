@@ -12,7 +12,7 @@ pub struct Incoming<'a> {
     ghost fits: { list_length payload.now ≤ 2048 },
 }
 
-// What a stored packet has besides its fields.
+// What a stored packet has besides its fields. An array and its length: an ArrayVec is not Copy, and emptying it for the next packet blanks all 2,048 bytes.
 #[derive(Clone, Copy)]
 pub struct Payload {
     pub present: u8,

@@ -18,6 +18,7 @@ pub(crate) fn first_with_room(row: &[Node], table: bool, from: u16) -> u16
     ensures low { result ≤ max from (beyond (nodes_of row.now)) }
 {
     let mut stage = from;
+    // By hand: a search in a range would answer an Option, and there is always a stage with room.
     while !has_room(row, table, stage) {
         stage += 1;
     }

@@ -30,6 +30,7 @@ pub(crate) fn step_at(statements: &[Statement], from: usize, end: u32) -> Step
     ensures { paths_at end (statements_of statements.now) from ≡ paths_of_step end (statements_of statements.now) result }
 {
     let mut at = from;
+    // By index: a skip passes over statements.
     while at < statements.len() {
         let statement = statements[at];
         let offset = statement.offset;
