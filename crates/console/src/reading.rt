@@ -14,10 +14,7 @@ const PIECE: usize = 262_144;
 pub fn open(rt: &HostRuntime, path: String) -> Result<File, Failure>
     ensures { IfErr result (λ e. (error : _) × (e ≡ Failure.Open path error)) }
 {
-    match fs::open(rt, path.as_str()) {
-        Ok(file) => Ok(file),
-        Err(error) => Err(Failure::Open(path, error)),
-    }
+    fs::open(rt, path.as_str()).map_err(|error| Failure::Open(path, error))
 }
 
 // Reads once behind what is held, which grows by what came, and says whether there was anything left to read. Memory follows what came, and
