@@ -35,3 +35,27 @@ pub fn read_on(input: &mut impl Read, held: &mut Vec<u8>) -> Result<bool, Failur
         Err(error) => Err(Failure::Input(error)),
     }
 }
+
+#[cfg(test)]
+mod tests {
+    use super::read_on;
+    use std::test::*;
+
+    // What comes stands behind what was held, until there is nothing left.
+    #[test]
+    fn reads_to_the_end(rt: HostRuntime) -> Result<(), Fail> {
+        let mut input: &[u8] = b"frames";
+        let mut held = Vec::from_slice(rt.alloc(), b"held ")?;
+        let Ok(more) = read_on(&mut input, &mut held) else {
+            return Err(Fail::new("not read"));
+        };
+        assert!(rt; more);
+        assert!(rt; held.as_slice() == b"held frames".as_slice());
+        let Ok(more) = read_on(&mut input, &mut held) else {
+            return Err(Fail::new("not read to the end"));
+        };
+        assert!(rt; !more);
+        assert!(rt; held.as_slice() == b"held frames".as_slice());
+        Ok(())
+    }
+}
