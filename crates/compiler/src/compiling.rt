@@ -33,6 +33,7 @@ fn read(heap: Global, source: &[u8]) -> Result<Program, Refusal>
         (λ p. ((d : state.Seen) × (read_source source.now ≡ taken d) × (program_of p ≡ packaged_in d)))
         (λ f. Unreadable f (read_source source.now)) }
 {
+    // By cases: an impl From for each of the two kinds of fault would be used once, and needs a definition and a lemma by the same cases.
     match see(heap, source) {
         Ok(seen) => packaged(heap, Limited { seen }),
         Err(Fault::Memory) => Err(Refusal::Memory),

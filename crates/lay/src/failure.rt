@@ -23,7 +23,7 @@ impl From<AllocError> for Failure {
     }
 }
 
-// What `println!` and the like come to.
+// What `println!` and the like come to: an error of another type, so another impl.
 impl From<io::Error> for Failure {
     fn from(error: io::Error) -> Failure {
         Failure::Common(Common::Output(error))

@@ -15,12 +15,12 @@ use failure::Failure;
 use listing::writing::listing;
 use placement::{Fault as Misplaced, place};
 use program::node::Node;
-use source::fault::Fault;
+use report::{Source, tell};
 use source::reading::read;
 use source::seen::Seen;
-use std::fs;
 use std::io::Read;
 use std::process::ExitCode;
+use std::{fmt, fs};
 
 const HELP: &str = "\
 usage: lay [FILE]
@@ -38,19 +38,34 @@ fn run(rt: &HostRuntime) -> Result<(), Failure> {
     match Command::read(rt, "lay")? {
         Command::Help => Ok(write(rt, HELP.as_bytes())?),
         Command::Version => Ok(write(rt, b"lay 0.1.0\n")?),
-        Command::Run(None) => told(rt, "standard input", &input(rt)?),
+        Command::Run(None) => {
+            let text = input(rt)?;
+            told(
+                rt,
+                Source {
+                    name: "standard input",
+                    text: &text,
+                },
+            )
+        }
         Command::Run(Some(path)) => {
             let text = fs::read(rt, path.as_str()).map_err(Failure::Open)?;
-            told(rt, path.as_str(), &text)
+            told(
+                rt,
+                Source {
+                    name: path.as_str(),
+                    text: &text,
+                },
+            )
         }
     }
 }
 
 // The source is read whole, then it is taken apart.
-fn told(rt: &HostRuntime, name: &str, text: &[u8]) -> Result<(), Failure> {
-    match read(rt.alloc(), text) {
-        Ok(seen) => placed(rt, name, text, &seen),
-        Err(fault) => refused(rt, name, text, fault),
+fn told(rt: &HostRuntime, source: Source<'_>) -> Result<(), Failure> {
+    match read(rt.alloc(), source.text) {
+        Ok(seen) => placed(rt, source, &seen),
+        Err(fault) => refused(rt, source, fault.answer(), &fault),
     }
 }
 
@@ -60,29 +75,30 @@ fn input(rt: &HostRuntime) -> Result<Vec<u8>, Common> {
     Ok(text)
 }
 
-fn placed(rt: &HostRuntime, name: &str, text: &[u8], seen: &Seen) -> Result<(), Failure> {
+fn placed(rt: &HostRuntime, source: Source<'_>, seen: &Seen) -> Result<(), Failure> {
     let end = u32::try_from(seen.body.end).map_err(|_| Failure::TooLong)?;
     match place(rt.alloc(), &seen.body.rows, end) {
         Ok(nodes) => shown(rt, seen, &nodes),
         Err(Misplaced::NoMemory) => Err(Common::Memory.into()),
-        Err(Misplaced::NoRoom(offset)) => {
-            report::tell(
-                rt,
-                name,
-                text,
-                Answer {
-                    code: Code::Stage,
-                    offset: offset as usize,
-                },
-                &"this needs a stage past the last, or is one node too many",
-            )?;
-            Err(Failure::Refused)
-        }
+        Err(Misplaced::NoRoom(offset)) => refused(
+            rt,
+            source,
+            Answer {
+                code: Code::Stage,
+                offset: offset as usize,
+            },
+            &"this needs a stage past the last, or is one node too many",
+        ),
     }
 }
 
-fn refused(rt: &HostRuntime, name: &str, text: &[u8], fault: Fault) -> Result<(), Failure> {
-    report::tell(rt, name, text, fault.answer(), &fault)?;
+fn refused<W: fmt::Display>(
+    rt: &HostRuntime,
+    source: Source<'_>,
+    answer: Answer,
+    words: &W,
+) -> Result<(), Failure> {
+    tell(rt, source, answer, words)?;
     Err(Failure::Refused)
 }
 

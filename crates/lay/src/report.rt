@@ -4,14 +4,21 @@ use codes::answer::Answer;
 use std::fmt;
 use std::str::from_utf8;
 
+// A source, and the name that it is known by.
+#[derive(Clone, Copy)]
+pub(crate) struct Source<'a> {
+    pub(crate) name: &'a str,
+    pub(crate) text: &'a [u8],
+}
+
 // One line `CODE OFFSET`; then the place by line and column, the line itself with a mark under the place, and what is wrong.
 pub(crate) fn tell<W: fmt::Display>(
     rt: &HostRuntime,
-    name: &str,
-    text: &[u8],
+    source: Source<'_>,
     answer: Answer,
     words: &W,
 ) -> Result<(), Failure> {
+    let Source { name, text } = source;
     let code = u8::from(answer.code);
     let offset = answer.offset;
     println!(rt; "{code} {offset}")?;

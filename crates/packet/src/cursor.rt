@@ -37,7 +37,7 @@ impl Cursor {
         let mut at = self.at;
         let mut held = self.held + width.bits;
         let mut waiting = self.waiting * (1u64 << width.bits) + value as u64 % (1u64 << width.bits);
-        // Byte by byte: a proof does not know what a `for` over `&mut` has written.
+        // Byte by byte: a proof does not know what a `for` over a lent slice has written.
         while held >= 8 {
             held -= 8;
             out[at] = (waiting >> held) as u8;

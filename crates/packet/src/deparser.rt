@@ -15,7 +15,7 @@ use program::headers::Header;
 pub struct NoRoom;
 
 impl Format<'_> {
-    // The present headers in the order of the source and then the payload are written to the front of `out`; gives the count of bytes.
+    // The present headers in the order of the source and then the payload are written to the front of `out`, which the caller lends; gives the count of bytes.
     pub fn deparse(
         &self,
         fields: &Fields,

@@ -17,7 +17,7 @@ impl Format<'_> {
         ensures small { result ≤ 256 }
     {
         let mut bits = 0usize;
-        // By number: a part of an array behind a reference is lent only through a slice of all of it, and the range would stand twice.
+        // By number: a part of an array behind two references is lent only through a slice of all of it, and the range would stand twice.
         for field in header.from..header.from + header.fields {
             bits += self.widths.get(FieldNo { at: field }).bits as usize;
         }

@@ -89,7 +89,7 @@ impl Format<'_> {
         ensures { fields_of fields.new ≡ read_fields (widths_in self.now) (header_of header.now).count (header_of header.now).first (bits_of bytes.now.all.now) (fields_of fields.old) }
     {
         let mut at = 0usize;
-        // By number: a proof does not know what a `for` over `&mut` has written.
+        // By number: a proof does not know what a `for` over an array that is written to has written.
         for field in header.from..header.from + header.fields {
             let width = self.widths.get(FieldNo { at: field });
             fields.of[field as usize] = bytes.number_at(at, width);

@@ -12,7 +12,8 @@ pub struct Incoming<'a> {
     ghost fits: { list_length payload.now ≤ 2048 },
 }
 
-// What a stored packet has besides its fields. An array and its length: an ArrayVec is not Copy, and emptying it for the next packet blanks all 2,048 bytes.
+// What a stored packet has besides its fields. An array and its length: a packet is Copy, as `play` takes one
+// out of the pipeline by value; an ArrayVec is not, and its clone may fail.
 #[derive(Clone, Copy)]
 pub struct Payload {
     pub present: u8,

@@ -11,7 +11,7 @@ const MOST_NODES: usize = 64;
 
 const MOST_TABLES: usize = 4;
 
-// The first stage from `from` on that has room for one node more, a table or another.
+// The first stage from `from` on that has room for one node more, a table or another: a flag, as the rule has it, and no kind of node decides more.
 pub(crate) fn first_with_room(row: &[Node], table: bool, from: u16) -> u16
     requires { beyond (nodes_of row.now) < 2 ^ 16 }
     ensures first { result ≡ limited table (nodes_of row.now) from }
@@ -39,7 +39,7 @@ fn nodes_on(row: &[Node], stage: u16) -> usize
     row.iter().filter(|node| is_on(**node, stage)).count()
 }
 
-// Tables on a stage.
+// Tables on a stage: another test than for nodes, and nothing else.
 fn tables_on(row: &[Node], stage: u16) -> usize
     ensures { result ≡ count_by (λ n. n.stage == stage && looks (does_of n.does)) row.now }
 {

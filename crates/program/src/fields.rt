@@ -22,6 +22,7 @@ impl Fields {
     }
 }
 
+// Alike in code with the fields, but not in what it says: a packet is a function of all numbers, and widths are a row.
 impl Widths {
     // The bits of a field.
     pub fn get(&self, field: FieldNo) -> Width

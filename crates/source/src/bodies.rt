@@ -48,6 +48,7 @@ impl Relation {
 }
 
 impl Seen {
+    // Each add_ writes to a row of its own, and says so in a word of its own: one for all would be handed the row, and say nothing of what else was read.
     fn add_row(&mut self, row: Statement) -> Result<(), Fault>
         ensures { MatchResult result (λ _. seen_of self.new ≡ add_row (row_of row) (seen_of self.old)) (λ f. f ≡ Memory) }
     {

@@ -44,6 +44,7 @@ fn awaited(there: bool, at: usize) -> Result<(), Fault>
     there.then_some(()).ok_or(Fault::Unawaited { at })
 }
 
+// One for signs and one for words, since the two are awaited in words of their own; what they share is `awaited`.
 pub fn expect(x: Token<'_>, sign: Sign) -> Result<(), Fault>
     ensures { Passes (sign_at sign (token_of x.entry)) result }
 {

@@ -4,7 +4,7 @@
 use source::reading::read;
 use std::alloc::Global;
 
-// The code and the offset that a source is answered by.
+// The code and the offset that a source is answered by, as numbers: so the tests name them.
 pub fn answer(heap: Global, text: &[u8]) -> (u8, usize) {
     match read(heap, text) {
         Ok(_) => (0, 0),

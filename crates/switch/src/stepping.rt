@@ -9,7 +9,7 @@ use crate::writing::Room;
 use frames::front::Next;
 use frames::reader::next;
 
-// How many bytes of the input were used, and how many of the output were written.
+// How many bytes of the input were used, and how many of the output were written: the output is lent by the caller, so that nothing is allocated.
 #[derive(Clone, Copy, Debug, PartialEq, Eq, Hash)]
 pub struct Progress {
     pub used: usize,

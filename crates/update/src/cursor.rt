@@ -37,7 +37,7 @@ impl Cursor<'_> {
         Ok(byte)
     }
 
-    // The next two bytes as a number, high byte first.
+    // The next two bytes as a number, high byte first. Beside `word`, since no trait has from_be_bytes.
     pub(crate) fn half(&mut self) -> Result<u16, Fault>
         ensures { Gives (half_at self.old.at self.old.rest.now) result (λ x. x) self.new.at self.new.rest.now }
     {

@@ -16,7 +16,7 @@ use std::alloc::Global;
 use table::entry::{Edit, Entry};
 
 impl Cursor<'_> {
-    // So many edits.
+    // So many edits. Memory and declarations come apart: of the two, an entry is read by the second alone.
     pub(crate) fn edits(
         &mut self,
         heap: Global,
