@@ -9,7 +9,7 @@ use program::field::Fields;
 use program::headers::{Choice, Header, HeaderNo};
 
 // Whether the header that comes next is this one.
-pub fn comes(next: Option<HeaderNo>, number: usize) -> bool
+pub(crate) fn comes(next: Option<HeaderNo>, number: usize) -> bool
     ensures value { result ≡ comes_in (next_of next) number }
     ensures within { result ≡ true → number < 8 }
 {
@@ -20,7 +20,7 @@ pub fn comes(next: Option<HeaderNo>, number: usize) -> bool
 }
 
 // What comes behind a header, by the value of its choosing field.
-pub fn behind(header: &Header, fields: &Fields) -> Option<HeaderNo>
+pub(crate) fn behind(header: &Header, fields: &Fields) -> Option<HeaderNo>
     ensures { next_of result ≡ chosen_in (header_of header.now).choices (fields_of fields.now (header_of header.now).by) }
 {
     let after = header.after.as_ref()?;

@@ -7,7 +7,7 @@ ghost use Rattle.packet.specs.Stands.{present_of};
 const MOST: usize = 8;
 
 // The headers with one more.
-pub fn with(present: u8, number: usize) -> u8
+pub(crate) fn with(present: u8, number: usize) -> u8
     requires { number < 8 }
     ensures { present_of result ≡ with_in number (present_of present) }
 {
@@ -15,7 +15,7 @@ pub fn with(present: u8, number: usize) -> u8
 }
 
 // Whether a header is there.
-pub fn has(present: u8, number: usize) -> bool
+pub(crate) fn has(present: u8, number: usize) -> bool
     ensures value { result ≡ present_of present number }
     ensures within { result ≡ true → number < 8 }
 {

@@ -10,7 +10,7 @@ const IPV4: Option<HeaderNo> = Some(HeaderNo { at: 2 });
 
 const UDP: Option<HeaderNo> = Some(HeaderNo { at: 3 });
 
-pub fn headers(heap: Global) -> Result<Headers, AllocError> {
+pub(crate) fn headers(heap: Global) -> Result<Headers, AllocError> {
     let ethernet = Header {
         from: 1,
         fields: 5,
@@ -56,7 +56,7 @@ fn choice(value: u32, next: Option<HeaderNo>) -> Choice {
 const BITS: &[u8; 27] = b"\x08\x10\x20\x10\x20\x10\x03\x01\x0c\x10\
     \x04\x04\x06\x02\x10\x10\x03\x0d\x08\x08\x10\x20\x20\x10\x10\x10\x10";
 
-pub fn widths() -> Result<Widths, Fail> {
+pub(crate) fn widths() -> Result<Widths, Fail> {
     let mut of = [Width { bits: 0 }; 64];
     for (width, bits) in of.iter_mut().zip(BITS.iter()) {
         let Some(bits) = Width::new(*bits) else {
