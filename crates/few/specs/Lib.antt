@@ -1,0 +1,2 @@
+-- Short vectors: what they hold.
+pub mod Few

@@ -1,0 +1,14 @@
+// A short vector.
+ghost use Rattle.std.specs.Prelude.{◌≤◌};
+
+// At most N elements; each place past them holds some element too.
+#[derive(Copy)]
+pub struct Few<T, const N: usize> {
+    pub all: [T; N],
+    pub count: usize,
+    ghost fits: { count ≤ N },
+}
+
+// One more would not fit.
+#[derive(Clone, Copy, Debug, PartialEq, Eq)]
+pub struct Full;
