@@ -1,5 +1,5 @@
 // What the command line asks for.
-ghost use Rattle.std.specs.Prelude.{◌≡◌, ◌⊎◌, Option, IfOk, IfErr};
+ghost use Rattle.std.specs.Prelude.{◌≡◌, ◌⊎◌, true, false, Option, IfOk, IfErr, MatchResult};
 ghost use Rattle.console.specs.Asking.{Word, asked};
 
 use crate::failure::Failure;
@@ -22,7 +22,15 @@ impl Command {
         let mut words = env::args(rt).map_err(Failure::Arguments)?;
         let _name = words.next();
         let word = words.next();
-        if words.next().is_some() {
+        let more = words.next();
+        Command::of(word, more.is_some(), program)
+    }
+
+    // What one word asks for, or none; more words are refused.
+    pub fn of(word: Option<String>, more: bool, program: &'static str) -> Result<Command, Failure>
+        ensures { MatchResult result (λ c. (more ≡ false) × (c ≡ asked word)) (λ e. (more ≡ true) × (e ≡ Failure.TooManyArguments program.entry)) }
+    {
+        if more {
             return Err(Failure::TooManyArguments(program));
         }
         Ok(Command::asked(word))

@@ -4,5 +4,6 @@
 pub mod command;
 pub mod ending;
 pub mod failure;
+pub mod piece;
 pub mod reading;
 pub mod writing;

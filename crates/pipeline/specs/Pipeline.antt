@@ -3,6 +3,7 @@ use Rattle.std.specs.Prelude.{Bool, List, ◌∷◌, Ok, Err, Result}
 use Rattle.model.specs.Packet as packet
 use Rattle.model.specs.Answer as answer
 use Rattle.model.specs.Pipeline as model
+use Rattle.pipeline.specs.Slots.{place_of}
 use Rattle.pipeline.specs.Stands.{versions_of, stored_in, slot_of, slots_of}
 use Rattle.pipeline.specs.declared.answer.OldPacketUnderWay.{OldPacketUnderWay}
 use Rattle.pipeline.specs.declared.loaded.Loaded.{Loaded}
@@ -18,6 +19,10 @@ pipeline_of p = record {
 -- the program that runs
 abbrev pub loaded_of : Pipeline → Loaded
 loaded_of p = p.versions.loaded
+
+-- the packet at the spare place
+abbrev pub spare_of : Pipeline → packet.Packet
+spare_of p = (stored_in p.store (place_of p.spare)).packet
 
 -- what has left in the last step
 abbrev pub departed_of : Pipeline → List packet.Departure

@@ -7,7 +7,7 @@ ghost use Rattle.model.specs.Answer.{answered};
 ghost use Rattle.table.specs.Stands.{edits_of};
 ghost use Rattle.pipeline.specs.Slots.{place_of};
 ghost use Rattle.pipeline.specs.Stands.{packet_of, incoming_of, stored_in, slot_of};
-ghost use Rattle.pipeline.specs.Pipeline.{pipeline_of, loaded_of, shifted, departed_of, answer_of};
+ghost use Rattle.pipeline.specs.Pipeline.{pipeline_of, loaded_of, shifted, departed_of, answer_of, spare_of};
 
 use crate::answer::OldPacketUnderWay;
 use crate::loaded::Loaded;
@@ -64,11 +64,18 @@ impl Pipeline {
     }
 
     // The packet that left in the last step, if one did.
-    pub fn last(&self) -> Option<&Packet>
+    pub fn left(&self) -> Option<&Packet>
         ensures { MatchOption result (departed_of self.now ≡ []) (λ packet. departed_of self.now ≡ departs (packet_of packet.now)) }
     {
         self.spare.node?;
-        Some(&self.store.at(self.spare.place).packet)
+        Some(self.last())
+    }
+
+    // The packet at the spare place, which is the one that left in the last step if one did.
+    pub fn last(&self) -> &Packet
+        ensures { packet_of result.now ≡ spare_of self.now }
+    {
+        &self.store.at(self.spare.place).packet
     }
 
     // An update is taken, as a new version for the packets that come later, unless a packet of a version before the newest is in a slot.

@@ -36,5 +36,5 @@ pub(crate) fn happen(pipeline: &mut Pipeline, event: Event) -> Outcome
 fn sent(pipeline: &Pipeline) -> Outcome
     ensures { outcome_of result ≡ Sends (departed_of pipeline.now) }
 {
-    Outcome::Sent(pipeline.last().copied())
+    Outcome::Sent(pipeline.left().copied())
 }

@@ -34,7 +34,7 @@ impl Running {
         ensures writes { out.new ≡ sent_all (running_format self.now) (departed_of self.now.pipeline) ++ drop result out.old }
         ensures small { result ≤ 4100 }
     {
-        match self.pipeline.last() {
+        match self.pipeline.left() {
             Some(packet) => {
                 let loaded = self.pipeline.loaded();
                 send(out, &self.headers, &loaded.declarations, packet)

@@ -1,6 +1,7 @@
 // An input from its beginning to its end, with each answer written before the next read.
 use console::failure::Failure;
-use console::reading::read_on;
+use console::piece::Piece;
+use console::reading::{held, release};
 use console::writing::write;
 use std::io::Read;
 use switch::feeding::LONGEST_ANSWER;
@@ -12,11 +13,12 @@ const PIECE: usize = 1_048_576;
 
 pub(crate) fn stream(rt: &HostRuntime, input: &mut impl Read) -> Result<(), Failure> {
     let mut switch = Switch::new(rt.alloc());
-    let mut held = Vec::new(rt.alloc());
+    let mut piece = Piece::new(rt.alloc())?;
+    let mut held = held(rt.alloc())?;
     let mut out = vec![in rt.alloc(); 0; PIECE]?;
     // Nothing says that an input ends, so the reads are counted; none counts so far.
     for _ in 0..u64::MAX {
-        let more = read_on(input, &mut held)?;
+        let more = piece.read_on(input, &mut held)?;
         serve(rt, &mut switch, &mut held, &mut out)?;
         if switch.has_stopped() {
             return Ok(());
@@ -38,7 +40,7 @@ fn serve(
     for _ in 0..u64::MAX {
         let Progress { used, written } = switch.feed(held, out);
         write(rt, &out[..written])?;
-        drop(held.drain(..used));
+        release(held, used);
         // There was room for one answer more, so no whole frame is left.
         if used == 0 || out.len() - written >= LONGEST_ANSWER {
             return Ok(());
