@@ -1,6 +1,7 @@
 -- Names that are declared, and what they stand for.
 use Rattle.std.specs.Prelude.{ℕ, cond, ◌&&◌, List, [], ◌∷◌, map, Some, None, Option, ◌==◌}
 use Rattle.std.specs.Str.{bytes_eq}
+use Rattle.few.specs.Few.{items_of}
 use Rattle.program.specs.declared.field.No.{No}
 use Rattle.source.specs.declared.name.Name.{Name}
 use Rattle.source.specs.declared.name.Named.{Named}
@@ -39,7 +40,7 @@ only fs w = only_behind None fs w
 
 -- what the code's names stand for
 abbrev pub name_of : Name → List ℕ
-name_of n = n.chars.items
+name_of n = items_of n.chars
 
 abbrev pub entry_of : {n : ℕ} → Named n → Entry
 entry_of e = record { name = name_of e.name; number = e.no.at }

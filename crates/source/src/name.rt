@@ -1,16 +1,16 @@
 // Names, and the numbers that they stand for.
-use arrayvec::ArrayVec;
+use few::few::Few;
 use program::field::{FieldNo, No};
 use program::headers::HeaderNo;
 
 // A name of at most 24 characters.
-#[derive(Drop)]
+#[derive(Clone, Copy)]
 pub struct Name {
-    pub chars: ArrayVec<u8, 24>,
+    pub chars: Few<u8, 24>,
 }
 
 // A name, and the number that it stands for.
-#[derive(Drop)]
+#[derive(Clone, Copy)]
 pub struct Named<const N: u8> {
     pub name: Name,
     pub no: No<N>,
@@ -21,7 +21,7 @@ pub type HeaderName = Named<8>;
 pub type TableName = Named<32>;
 
 // A field's name, its header, and its number.
-#[derive(Drop)]
+#[derive(Clone, Copy)]
 pub struct FieldName {
     pub name: Name,
     pub header: HeaderNo,

@@ -4,17 +4,16 @@ ghost use Rattle.std.specs.Str.{bytes_eq};
 ghost use Rattle.source.specs.Names.{name_of};
 
 use crate::name::Name;
-use arrayvec::ArrayVec;
+use few::few::Few;
 
 impl Name {
     // The name that a word gives, and none if it is too long.
     pub fn of(word: &[u8]) -> Option<Name>
         ensures { MatchOption result (24 < length word.now) (λ n. (length word.now < 25) × (name_of n ≡ word.now)) }
     {
-        match ArrayVec::try_from(word) {
-            Ok(chars) => Some(Name { chars }),
-            Err(_) => None,
-        }
+        Some(Name {
+            chars: Few::of(word)?,
+        })
     }
 
     // The name as a word.

@@ -17,7 +17,7 @@ pub struct Names {
 }
 
 // What a choice names: the end, a header, a header that is not declared yet, or a word that no header can have.
-#[derive(Drop)]
+#[derive(Clone, Copy)]
 pub enum Next {
     Ends,
     Header(HeaderNo),
@@ -25,7 +25,7 @@ pub enum Next {
     Never { at: usize },
 }
 
-#[derive(Drop)]
+#[derive(Clone, Copy)]
 pub struct Choice {
     pub header: HeaderNo,
     pub value: u32,
