@@ -4,6 +4,7 @@
 pub mod command;
 pub mod ending;
 pub mod failure;
-pub mod piece;
+pub mod held;
+pub mod holding;
 pub mod reading;
 pub mod writing;

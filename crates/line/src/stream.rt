@@ -3,28 +3,26 @@ ghost use Rattle.std.specs.Prelude.{◌≤◌, length, IfOk};
 
 use crate::failure::Failure;
 use console::failure::Failure as Common;
-use console::piece::Piece;
-use console::reading::{held, release};
+use console::held::Held;
 use console::writing::write;
 use frames::served::Served;
 use frames::server::serve;
 use std::io::Read;
 
 pub(crate) fn stream(rt: &HostRuntime, input: &mut impl Read) -> Result<(), Failure> {
-    let mut piece = Piece::new(rt.alloc())?;
-    let mut held = held(rt.alloc())?;
+    let mut held = Held::new(rt.alloc())?;
     let mut out = Vec::new(rt.alloc());
     // Nothing says that an input ends, so the reads are counted; none counts so far.
     for _ in 0..u64::MAX {
-        let more = piece.read_on(input, &mut held)?;
-        let stopped = serve_all(&held, !more, &mut out);
+        let more = held.read_on(input)?;
+        let stopped = serve_all(held.bytes(), !more, &mut out);
         write(rt, &out)?;
         out.clear();
         let (used, served) = stopped?;
         match served {
             Served::End => return Ok(()),
             Served::AtSource => return Err(Failure::Source),
-            Served::More | Served::Frame { .. } => release(&mut held, used),
+            Served::More | Served::Frame { .. } => held.release(used),
         }
     }
     Ok(())

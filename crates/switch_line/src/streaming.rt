@@ -1,7 +1,6 @@
 // An input from its beginning to its end, with each answer written before the next read.
 use console::failure::Failure;
-use console::piece::Piece;
-use console::reading::{held, release};
+use console::held::Held;
 use console::writing::write;
 use std::io::Read;
 use switch::feeding::LONGEST_ANSWER;
@@ -13,18 +12,17 @@ const PIECE: usize = 1_048_576;
 
 pub(crate) fn stream(rt: &HostRuntime, input: &mut impl Read) -> Result<(), Failure> {
     let mut switch = Switch::new(rt.alloc());
-    let mut piece = Piece::new(rt.alloc())?;
-    let mut held = held(rt.alloc())?;
+    let mut held = Held::new(rt.alloc())?;
     let mut out = vec![in rt.alloc(); 0; PIECE]?;
     // Nothing says that an input ends, so the reads are counted; none counts so far.
     for _ in 0..u64::MAX {
-        let more = piece.read_on(input, &mut held)?;
+        let more = held.read_on(input)?;
         serve(rt, &mut switch, &mut held, &mut out)?;
         if switch.has_stopped() {
             return Ok(());
         }
         if !more {
-            return finish(rt, &switch, &held, &mut out);
+            return finish(rt, &switch, held.bytes(), &mut out);
         }
     }
     Ok(())
@@ -34,13 +32,13 @@ pub(crate) fn stream(rt: &HostRuntime, input: &mut impl Read) -> Result<(), Fail
 fn serve(
     rt: &HostRuntime,
     switch: &mut Switch,
-    held: &mut Vec<u8>,
+    held: &mut Held,
     out: &mut [u8],
 ) -> Result<(), Failure> {
     for _ in 0..u64::MAX {
-        let Progress { used, written } = switch.feed(held, out);
+        let Progress { used, written } = switch.feed(held.bytes(), out);
         write(rt, &out[..written])?;
-        release(held, used);
+        held.release(used);
         // There was room for one answer more, so no whole frame is left.
         if used == 0 || out.len() - written >= LONGEST_ANSWER {
             return Ok(());
