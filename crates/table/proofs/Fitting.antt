@@ -1,5 +1,5 @@
 -- Which entry fits, and what it has done, as the library's words say it.
-use Rattle.std.proofs.Common.{◌≡◌, ℕ, zero, suc, ◌≤◌, ◌+◌, ◌<◌, Bool, cond, not, ◌&&◌, ltb, List, [], ◌∷◌, length, get_or, drop, slice_index, vec_items, Some, None, sym, refl, ap, ap₂, ◌∙◌, ⊎_elim, arith}
+use Rattle.std.proofs.Common.{◌≡◌, ℕ, zero, suc, ◌≤◌, ◌+◌, ◌<◌, Bool, true, false, cond, not, ◌&&◌, ltb, List, [], ◌∷◌, length, get_or, drop, slice_index, vec_items, Some, None, sym, refl, ap, ap₂, ◌∙◌, ⊎_elim, arith}
 use Rattle.std.proofs.lemmas.Bool.{lt-ltb, le-ltb, cases_lt}
 use Rattle.std.proofs.lemmas.List.Recursion.{is_position_or_len}
 use Rattle.std.proofs.lemmas.List.Sums.{prefix_len-le-length}
@@ -82,6 +82,26 @@ or_len n m h = ⊎_elim
 pub first_is : (fs : List FieldNo) (es : List Entry) (x : Fields) (base : Packet) →
     unwrap_or (position (agree fs x.of) es) (length es) ≡ first_fit (numbers_of fs) (entries_of es) (over x base)
 first_is fs es x base = or_len (position_or_len (agree fs x.of) es) (length es) (prefix_len-le-length (λ (e : Entry). not (agree fs x.of e)) es) ∙ sym (first_is_len fs es x base)
+
+-- an entry is the first that fits where none before it does
+pub first_some : (p : Entry → Bool) (es : List Entry) (i : ℕ) (e : Entry) → i < length es → e ≡ get_or es i e → p e ≡ true →
+    i + position_or_len p (drop i es) ≡ position_or_len p es → Some i ≡ position p es
+first_some p es i e h is fit before =
+    let here : position_or_len p (drop i es) ≡ 0 = rw (drop_more es i e h, ← is, fit) refl in
+    let at : position_or_len p es ≡ i = omega (arith, here, before) in
+    rw (at, lt-ltb i (length es) h) refl
+
+pub first_on : (p : Entry → Bool) (es : List Entry) (i : ℕ) (e : Entry) → i < length es → e ≡ get_or es i e → p e ≡ false →
+    i + position_or_len p (drop i es) ≡ position_or_len p es → (i + 1) + position_or_len p (drop (i + 1) es) ≡ position_or_len p es
+first_on p es i e h is fit before =
+    let on : position_or_len p (drop i es) ≡ 1 + position_or_len p (drop (i + 1) es) = rw (drop_more es i e h, ← is, fit) refl in
+    omega (arith, on, before)
+
+pub first_none : (p : Entry → Bool) (es : List Entry) (i : ℕ) → length es ≤ i → i + position_or_len p (drop i es) ≡ position_or_len p es → None ≡ position p es
+first_none p es i h before =
+    let none : position_or_len p (drop i es) ≡ 0 = rw (drop_all i es h) refl in
+    let past : length es ≤ position_or_len p es = omega (arith, none, before) in
+    rw (le-ltb (position_or_len p es) (length es) past) refl
 
 -- the entry that a table takes
 chosen_with : (k : MatchKind) (fs : List FieldNo) (es : List Entry) (x : Fields) (base : Packet) →

@@ -93,9 +93,12 @@ fn fits(looks: &[FieldNo], patterns: &[Pattern], fields: &Fields) -> bool
 fn first_fit(looks: &[FieldNo], entries: &[Entry], fields: &Fields) -> Option<usize>
     ensures { result ≡ position (λ e. list_all (λ p. agrees_in (pattern_of p.1) (slice_index fields.now.of p.0.at)) (zip looks.now (items_of e.patterns))) entries.now }
 {
-    entries
-        .iter()
-        .position(|entry| fits(looks, entry.patterns.as_slice(), fields))
+    for (at, entry) in entries.iter().enumerate() {
+        if fits(looks, entry.patterns.as_slice(), fields) {
+            return Some(at);
+        }
+    }
+    None
 }
 
 // The actions in order, each on the fields as the one before has left them.
