@@ -47,9 +47,29 @@ unfolding first_fit fits
 first_of_none [] p = refl
 first_of_none (e ∷ es) p = refl
 
--- whether an entry's patterns agree with the fields that are looked at
+-- whether patterns agree with the fields that are looked at
+abbrev pub agree_all : List FieldNo → List Pattern → List ℕ → Bool
+agree_all fs ws x = list_all (λ (p : FieldNo × Pattern). agrees (pattern_of p.1) (slice_index x p.0.at)) (zip fs ws)
+
+-- one field more is compared
+pub agree_more : (fs : List FieldNo) (ws : List Pattern) (x : List ℕ) (k : ℕ) (f : FieldNo) (w : Pattern) → k < length fs → f ≡ get_or fs k f → k < length ws → w ≡ get_or ws k w →
+    agree_all (drop k fs) (drop k ws) x ≡ (agrees (pattern_of w) (slice_index x f.at) && agree_all (drop (k + 1) fs) (drop (k + 1) ws) x)
+agree_more fs ws x k f w hf ef hw ew = rw (drop_more fs k f hf, drop_more ws k w hw, ← ef, ← ew) refl
+
+-- no pattern is left, or no field
+agree_no_pattern : (fs : List FieldNo) (x : List ℕ) → agree_all fs [] x ≡ true
+agree_no_pattern [] x = refl
+agree_no_pattern (f ∷ fs) x = refl
+
+pub agree_patterns_end : (fs : List FieldNo) (ws : List Pattern) (x : List ℕ) (k : ℕ) → length ws ≤ k → agree_all fs (drop k ws) x ≡ true
+agree_patterns_end fs ws x k h = rw (drop_all k ws h) (agree_no_pattern fs x)
+
+pub agree_fields_end : (fs : List FieldNo) (ws : List Pattern) (x : List ℕ) (k : ℕ) → length fs ≤ k → agree_all (drop k fs) ws x ≡ true
+agree_fields_end fs ws x k h = rw (drop_all k fs h) refl
+
+-- whether an entry's patterns do
 abbrev pub agree : List FieldNo → List ℕ → Entry → Bool
-agree fs x e = list_all (λ (p : FieldNo × Pattern). agrees (pattern_of p.1) (slice_index x p.0.at)) (zip fs (items_of e.patterns))
+agree fs x e = agree_all fs (items_of e.patterns) x
 
 -- fields are numbered below 64, so that it doesn't matter what stands behind them
 pub low : (x : Fields) (f : FieldNo) (base : Packet) → over x base f.at ≡ slice_index x.of f.at

@@ -79,8 +79,21 @@ fn agrees(fields: &Fields, field: FieldNo, pattern: Pattern) -> bool
     x & pattern.mask == pattern.value & pattern.mask
 }
 
-// Whether these patterns fit the fields that are looked at.
+// Whether these patterns fit the fields that are looked at. The first field is compared apart from the others, since most entries differ there.
 fn fits(looks: &[FieldNo], patterns: &[Pattern], fields: &Fields) -> bool
+    ensures { result ≡ list_all (λ p. agrees_in (pattern_of p.1) (slice_index fields.now.of p.0.at)) (zip looks.now patterns.now) }
+{
+    let [field, looks @ ..] = looks else {
+        return true;
+    };
+    let [pattern, patterns @ ..] = patterns else {
+        return true;
+    };
+    agrees(fields, *field, *pattern) && agree_all(looks, patterns, fields)
+}
+
+// Whether each of these fields agrees with its pattern.
+fn agree_all(looks: &[FieldNo], patterns: &[Pattern], fields: &Fields) -> bool
     ensures { result ≡ list_all (λ p. agrees_in (pattern_of p.1) (slice_index fields.now.of p.0.at)) (zip looks.now patterns.now) }
 {
     looks
@@ -90,6 +103,7 @@ fn fits(looks: &[FieldNo], patterns: &[Pattern], fields: &Fields) -> bool
 }
 
 // The index of the first entry that fits the fields.
+#[inline(never)]
 fn first_fit(looks: &[FieldNo], entries: &[Entry], fields: &Fields) -> Option<usize>
     ensures { result ≡ position (λ e. list_all (λ p. agrees_in (pattern_of p.1) (slice_index fields.now.of p.0.at)) (zip looks.now (items_of e.patterns))) entries.now }
 {
