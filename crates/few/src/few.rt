@@ -4,8 +4,8 @@ ghost use Rattle.std.specs.Prelude.{◌≤◌};
 // At most N elements; each place past them holds some element too.
 #[derive(Copy)]
 pub struct Few<T, const N: usize> {
-    pub all: [T; N],
     pub count: usize,
+    pub all: [T; N],
     ghost fits: { count ≤ N },
 }
 

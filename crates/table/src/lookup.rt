@@ -103,7 +103,6 @@ fn agree_all(looks: &[FieldNo], patterns: &[Pattern], fields: &Fields) -> bool
 }
 
 // The index of the first entry that fits the fields.
-#[inline(never)]
 fn first_fit(looks: &[FieldNo], entries: &[Entry], fields: &Fields) -> Option<usize>
     ensures { result ≡ position (λ e. list_all (λ p. agrees_in (pattern_of p.1) (slice_index fields.now.of p.0.at)) (zip looks.now (items_of e.patterns))) entries.now }
 {
