@@ -51,9 +51,8 @@ fn pattern(out: &mut Vec<u8>, pattern: Pattern) -> Result<(), AllocError>
 fn actions(out: &mut Vec<u8>, actions: &Few<Action, 4>) -> Result<(), AllocError>
     ensures { Appends out.old.items out.new.items (length (items_of actions.now) ∷ actions_bytes (actions_of (items_of actions.now))) result }
 {
-    let actions = actions.as_slice();
-    bytes(out, &[actions.len() as u8])?;
-    for one in actions {
+    bytes(out, &[actions.as_slice().len() as u8])?;
+    for one in actions.as_slice() {
         action(out, *one)?;
     }
     Ok(())

@@ -1,5 +1,5 @@
 -- Which entry fits, and what it has done, as the library's words say it.
-use Rattle.std.proofs.Common.{◌≡◌, ℕ, zero, suc, ◌≤◌, ◌+◌, ◌<◌, Bool, true, false, cond, not, ◌&&◌, ltb, List, [], ◌∷◌, length, get_or, drop, slice_index, vec_items, Some, None, sym, refl, ap, ap₂, ◌∙◌, ⊎_elim, arith}
+use Rattle.std.proofs.Common.{◌≡◌, ℕ, zero, suc, ◌≤◌, ◌+◌, ◌<◌, Bool, cond, not, ◌&&◌, ltb, List, [], ◌∷◌, length, get_or, drop, slice_index, vec_items, Some, None, sym, refl, ap, ap₂, ◌∙◌, ⊎_elim, arith}
 use Rattle.std.proofs.lemmas.Bool.{lt-ltb, le-ltb, cases_lt}
 use Rattle.std.proofs.lemmas.List.Recursion.{is_position_or_len}
 use Rattle.std.proofs.lemmas.List.Sums.{prefix_len-le-length}
@@ -47,29 +47,9 @@ unfolding first_fit fits
 first_of_none [] p = refl
 first_of_none (e ∷ es) p = refl
 
--- whether patterns agree with the fields that are looked at
-abbrev pub agree_all : List FieldNo → List Pattern → List ℕ → Bool
-agree_all fs ws x = list_all (λ (p : FieldNo × Pattern). agrees (pattern_of p.1) (slice_index x p.0.at)) (zip fs ws)
-
--- one field more is compared
-pub agree_more : (fs : List FieldNo) (ws : List Pattern) (x : List ℕ) (k : ℕ) (f : FieldNo) (w : Pattern) → k < length fs → f ≡ get_or fs k f → k < length ws → w ≡ get_or ws k w →
-    agree_all (drop k fs) (drop k ws) x ≡ (agrees (pattern_of w) (slice_index x f.at) && agree_all (drop (k + 1) fs) (drop (k + 1) ws) x)
-agree_more fs ws x k f w hf ef hw ew = rw (drop_more fs k f hf, drop_more ws k w hw, ← ef, ← ew) refl
-
--- no pattern is left, or no field
-agree_no_pattern : (fs : List FieldNo) (x : List ℕ) → agree_all fs [] x ≡ true
-agree_no_pattern [] x = refl
-agree_no_pattern (f ∷ fs) x = refl
-
-pub agree_patterns_end : (fs : List FieldNo) (ws : List Pattern) (x : List ℕ) (k : ℕ) → length ws ≤ k → agree_all fs (drop k ws) x ≡ true
-agree_patterns_end fs ws x k h = rw (drop_all k ws h) (agree_no_pattern fs x)
-
-pub agree_fields_end : (fs : List FieldNo) (ws : List Pattern) (x : List ℕ) (k : ℕ) → length fs ≤ k → agree_all (drop k fs) ws x ≡ true
-agree_fields_end fs ws x k h = rw (drop_all k fs h) refl
-
--- whether an entry's patterns do
+-- whether an entry's patterns agree with the fields that are looked at
 abbrev pub agree : List FieldNo → List ℕ → Entry → Bool
-agree fs x e = agree_all fs (items_of e.patterns) x
+agree fs x e = list_all (λ (p : FieldNo × Pattern). agrees (pattern_of p.1) (slice_index x p.0.at)) (zip fs (items_of e.patterns))
 
 -- fields are numbered below 64, so that it doesn't matter what stands behind them
 pub low : (x : Fields) (f : FieldNo) (base : Packet) → over x base f.at ≡ slice_index x.of f.at
@@ -102,26 +82,6 @@ or_len n m h = ⊎_elim
 pub first_is : (fs : List FieldNo) (es : List Entry) (x : Fields) (base : Packet) →
     unwrap_or (position (agree fs x.of) es) (length es) ≡ first_fit (numbers_of fs) (entries_of es) (over x base)
 first_is fs es x base = or_len (position_or_len (agree fs x.of) es) (length es) (prefix_len-le-length (λ (e : Entry). not (agree fs x.of e)) es) ∙ sym (first_is_len fs es x base)
-
--- an entry is the first that fits where none before it does
-pub first_some : (p : Entry → Bool) (es : List Entry) (i : ℕ) (e : Entry) → i < length es → e ≡ get_or es i e → p e ≡ true →
-    i + position_or_len p (drop i es) ≡ position_or_len p es → Some i ≡ position p es
-first_some p es i e h is fit before =
-    let here : position_or_len p (drop i es) ≡ 0 = rw (drop_more es i e h, ← is, fit) refl in
-    let at : position_or_len p es ≡ i = omega (arith, here, before) in
-    rw (at, lt-ltb i (length es) h) refl
-
-pub first_on : (p : Entry → Bool) (es : List Entry) (i : ℕ) (e : Entry) → i < length es → e ≡ get_or es i e → p e ≡ false →
-    i + position_or_len p (drop i es) ≡ position_or_len p es → (i + 1) + position_or_len p (drop (i + 1) es) ≡ position_or_len p es
-first_on p es i e h is fit before =
-    let on : position_or_len p (drop i es) ≡ 1 + position_or_len p (drop (i + 1) es) = rw (drop_more es i e h, ← is, fit) refl in
-    omega (arith, on, before)
-
-pub first_none : (p : Entry → Bool) (es : List Entry) (i : ℕ) → length es ≤ i → i + position_or_len p (drop i es) ≡ position_or_len p es → None ≡ position p es
-first_none p es i h before =
-    let none : position_or_len p (drop i es) ≡ 0 = rw (drop_all i es h) refl in
-    let past : length es ≤ position_or_len p es = omega (arith, none, before) in
-    rw (le-ltb (position_or_len p es) (length es) past) refl
 
 -- the entry that a table takes
 chosen_with : (k : MatchKind) (fs : List FieldNo) (es : List Entry) (x : Fields) (base : Packet) →

@@ -79,7 +79,7 @@ fn agrees(fields: &Fields, field: FieldNo, pattern: Pattern) -> bool
     x & pattern.mask == pattern.value & pattern.mask
 }
 
-// Whether these patterns fit the fields that are looked at. The first field is compared apart from the others, since most entries differ there.
+// Whether these patterns fit the fields that are looked at. The first field is compared apart: most entries differ there, and through the chain alone a look-up takes longer.
 fn fits(looks: &[FieldNo], patterns: &[Pattern], fields: &Fields) -> bool
     ensures { result ≡ list_all (λ p. agrees_in (pattern_of p.1) (slice_index fields.now.of p.0.at)) (zip looks.now patterns.now) }
 {
@@ -106,12 +106,9 @@ fn agree_all(looks: &[FieldNo], patterns: &[Pattern], fields: &Fields) -> bool
 fn first_fit(looks: &[FieldNo], entries: &[Entry], fields: &Fields) -> Option<usize>
     ensures { result ≡ position (λ e. list_all (λ p. agrees_in (pattern_of p.1) (slice_index fields.now.of p.0.at)) (zip looks.now (items_of e.patterns))) entries.now }
 {
-    for (at, entry) in entries.iter().enumerate() {
-        if fits(looks, entry.patterns.as_slice(), fields) {
-            return Some(at);
-        }
-    }
-    None
+    entries
+        .iter()
+        .position(|entry| fits(looks, entry.patterns.as_slice(), fields))
 }
 
 // The actions in order, each on the fields as the one before has left them.

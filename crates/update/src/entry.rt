@@ -47,7 +47,9 @@ impl Cursor<'_> {
             if patterns.is_full() {
                 return Err(Fault::NoMemory);
             }
-            patterns.push(self.pattern(terms.declarations.widths.get(*field))?).unwrap();
+            patterns
+                .push(self.pattern(terms.declarations.widths.get(*field))?)
+                .unwrap();
         }
         Ok(patterns)
     }
