@@ -1,11 +1,12 @@
 // Writing entries. For want of memory a writer leaves what was there before at the front.
 ghost use Rattle.std.specs.Prelude.{[], ◌∷◌, length};
+ghost use Rattle.few.specs.Few.{items_of};
 ghost use Rattle.program.specs.Stands.{operand_of, action_of};
 ghost use Rattle.table.specs.Stands.{pattern_of, patterns_of, entry_of, entries_of, actions_of};
 ghost use Rattle.encoding.specs.Encoded.{word, operand_bytes, action_bytes, actions_bytes, pattern_bytes, patterns_bytes, entry_bytes, entries_bytes};
 ghost use Rattle.encoding.specs.Appending.{Appends};
 
-use arrayvec::ArrayVec;
+use few::few::Few;
 use program::action::{Action, Operand};
 use program::field::FieldNo;
 use std::alloc::AllocError;
@@ -25,7 +26,7 @@ pub(crate) fn entries(out: &mut Vec<u8>, entries: &[Entry]) -> Result<(), AllocE
 fn entry(out: &mut Vec<u8>, entry: &Entry) -> Result<(), AllocError>
     ensures { Appends out.old.items out.new.items (entry_bytes (entry_of entry.now)) result }
 {
-    patterns(out, &entry.patterns)?;
+    patterns(out, entry.patterns.as_slice())?;
     actions(out, &entry.actions)
 }
 
@@ -47,10 +48,10 @@ fn pattern(out: &mut Vec<u8>, pattern: Pattern) -> Result<(), AllocError>
 }
 
 // How many actions there are, and the actions.
-fn actions(out: &mut Vec<u8>, actions: &ArrayVec<Action, 4>) -> Result<(), AllocError>
-    ensures { Appends out.old.items out.new.items (length actions.now.items ∷ actions_bytes (actions_of actions.now.items)) result }
+fn actions(out: &mut Vec<u8>, actions: &Few<Action, 4>) -> Result<(), AllocError>
+    ensures { Appends out.old.items out.new.items (length (items_of actions.now) ∷ actions_bytes (actions_of (items_of actions.now))) result }
 {
-    bytes(out, &[actions.len() as u8])?;
+    bytes(out, &[actions.as_slice().len() as u8])?;
     for one in actions.as_slice() {
         action(out, *one)?;
     }

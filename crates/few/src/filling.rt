@@ -1,5 +1,5 @@
 // What a short vector holds, and one more.
-ghost use Rattle.std.specs.Prelude.{◌≡◌, ◌≤◌, ◌<◌, [], ◌∷◌, ◌++◌, length, MatchOption, MatchResult};
+ghost use Rattle.std.specs.Prelude.{◌≡◌, ◌==◌, ◌≤◌, ◌<◌, [], ◌∷◌, ◌++◌, length, MatchOption, MatchResult};
 ghost use Rattle.few.specs.Few.{items_of};
 
 use crate::few::{Few, Full};
@@ -39,6 +39,13 @@ impl<T: Copy, const N: usize> Few<T, N> {
         ensures fits { length result.now ≤ N }
     {
         &self.all[..self.count]
+    }
+
+    // Whether no more would fit.
+    pub fn is_full(&self) -> bool
+        ensures { result ≡ (length (items_of self.now) == N) }
+    {
+        self.count == N
     }
 
     // One more, if there is room.

@@ -6,8 +6,10 @@ use std::test::*;
 fn holds_what_is_pushed(rt: HostRuntime) {
     let mut few: Few<u32, 2> = Few::new();
     assert!(rt; few.push(7).is_ok());
+    assert!(rt; !few.is_full());
     let before = few;
     assert!(rt; few.push(9).is_ok());
+    assert!(rt; few.is_full());
     assert!(rt; few.push(11).is_err());
     assert!(rt; few.as_slice() == [7u32, 9].as_slice());
     assert!(rt; before.as_slice() == [7u32].as_slice());

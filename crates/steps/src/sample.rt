@@ -1,5 +1,5 @@
 // A small program and a row of events for it.
-use arrayvec::ArrayVec;
+use few::few::Few;
 use play::event::Event;
 use program::action::{Action, Operand};
 use program::declarations::{Declarations, MatchKind, TableDeclaration};
@@ -93,10 +93,8 @@ pub(crate) fn always(field: FieldNo, x: u32) -> Entry {
 
 // An entry that fits where its pattern agrees with the one field that the table looks at, and sets a field.
 pub(crate) fn fitting(pattern: Pattern, field: FieldNo, x: u32) -> Entry {
-    let mut patterns = ArrayVec::new();
-    patterns.push(pattern);
-    let mut actions = ArrayVec::new();
-    actions.push(Action::Set(field, Operand::Number(x)));
+    let patterns = Few::of(&[pattern]).unwrap();
+    let actions = Few::of(&[Action::Set(field, Operand::Number(x))]).unwrap();
     Entry { patterns, actions }
 }
 

@@ -6,6 +6,7 @@ use Rattle.std.proofs.lemmas.List.Sums.{prefix_len-le-length}
 use Rattle.std.proofs.lemmas.List.{drop_more, drop_all, get_or_past, length-map}
 use Rattle.std.specs.List.{zip, list_all, position, position_or_len}
 use Rattle.std.specs.Option.{unwrap_or}
+use Rattle.few.specs.Few.{items_of}
 use Rattle.model.specs.Packet.{Packet}
 use Rattle.model.specs.Declarations.{Declarations}
 use Rattle.model.specs.Action.{act, acts}
@@ -48,7 +49,7 @@ first_of_none (e ∷ es) p = refl
 
 -- whether an entry's patterns agree with the fields that are looked at
 abbrev pub agree : List FieldNo → List ℕ → Entry → Bool
-agree fs x e = list_all (λ (p : FieldNo × Pattern). agrees (pattern_of p.1) (slice_index x p.0.at)) (zip fs e.patterns.items)
+agree fs x e = list_all (λ (p : FieldNo × Pattern). agrees (pattern_of p.1) (slice_index x p.0.at)) (zip fs (items_of e.patterns))
 
 -- fields are numbered below 64, so that it doesn't matter what stands behind them
 pub low : (x : Fields) (f : FieldNo) (base : Packet) → over x base f.at ≡ slice_index x.of f.at
@@ -62,7 +63,7 @@ same_pairs (f ∷ fs) (w ∷ ws) x base =
     ap₂ (λ (n : ℕ) (b : Bool). agrees (pattern_of w) n && b) (low x f base) (same_pairs fs ws x base)
 
 pub fits_agree : (fs : List FieldNo) (e : Entry) (x : Fields) (base : Packet) → fits (numbers_of fs) (entry_of e).patterns (over x base) ≡ agree fs x.of e
-fits_agree fs e x base = fits_pairs fs e.patterns.items (over x base) ∙ same_pairs fs e.patterns.items x base
+fits_agree fs e x base = fits_pairs fs (items_of e.patterns) (over x base) ∙ same_pairs fs (items_of e.patterns) x base
 
 -- the first entry that fits, or the count of entries
 first_is_len : (fs : List FieldNo) (es : List Entry) (x : Fields) (base : Packet) → first_fit (numbers_of fs) (entries_of es) (over x base) ≡ position_or_len (agree fs x.of) es

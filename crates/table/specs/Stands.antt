@@ -1,5 +1,6 @@
 -- What the entries of the code stand for in the model.
 use Rattle.std.specs.Prelude.{Bool, List, [], map, vec_items, slice_index_or}
+use Rattle.few.specs.Few.{items_of}
 use Rattle.model.specs.Action as action
 use Rattle.model.specs.Table as table
 use Rattle.model.specs.Version as version
@@ -22,7 +23,7 @@ abbrev pub patterns_of : List Pattern → List table.Pattern
 patterns_of ws = map pattern_of ws
 
 abbrev pub entry_of : Entry → table.Entry
-entry_of e = record { patterns = patterns_of e.patterns.items; actions = actions_of e.actions.items }
+entry_of e = record { patterns = patterns_of (items_of e.patterns); actions = actions_of (items_of e.actions) }
 
 abbrev pub entries_of : List Entry → List table.Entry
 entries_of es = map entry_of es

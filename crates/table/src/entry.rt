@@ -1,5 +1,5 @@
 // Entries of a table.
-use arrayvec::ArrayVec;
+use few::few::Few;
 use program::action::Action;
 use program::field::TableNo;
 
@@ -11,10 +11,10 @@ pub struct Pattern {
 }
 
 // A pattern for each field that the table looks at, in that order, and what is done: up to four actions, one after the other.
-#[derive(Drop)]
+#[derive(Clone, Copy)]
 pub struct Entry {
-    pub patterns: ArrayVec<Pattern, 4>,
-    pub actions: ArrayVec<Action, 4>,
+    pub patterns: Few<Pattern, 4>,
+    pub actions: Few<Action, 4>,
 }
 
 // One edit of an update: all entries of a table are replaced.

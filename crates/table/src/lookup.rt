@@ -2,6 +2,7 @@
 ghost use Rattle.std.specs.Prelude.{◌≡◌, ◌<◌, length, position, zip, IfSome, slice_index, slice_index_or};
 ghost use Rattle.std.specs.List.{list_all};
 ghost use Rattle.std.specs.Option.{unwrap_or};
+ghost use Rattle.few.specs.Few.{items_of};
 ghost use Rattle.model.specs.Packet.{Packet};
 ghost use Rattle.model.specs.Action.{acts as acts_in};
 ghost use Rattle.model.specs.Table.{fits as fits_in, chosen as chosen_in, agrees as agrees_in, no_entry};
@@ -66,7 +67,7 @@ fn act_by(fields: &mut Fields, declarations: &Declarations, entries: &[Entry], a
         return;
     };
     if let Some(entry) = entries.get(at) {
-        act_all(fields, declarations, &entry.actions);
+        act_all(fields, declarations, entry.actions.as_slice());
     }
 }
 
@@ -78,8 +79,21 @@ fn agrees(fields: &Fields, field: FieldNo, pattern: Pattern) -> bool
     x & pattern.mask == pattern.value & pattern.mask
 }
 
-// Whether these patterns fit the fields that are looked at.
+// Whether these patterns fit the fields that are looked at. The first field is compared apart: most entries differ there, and through the chain alone a look-up takes longer.
 fn fits(looks: &[FieldNo], patterns: &[Pattern], fields: &Fields) -> bool
+    ensures { result ≡ list_all (λ p. agrees_in (pattern_of p.1) (slice_index fields.now.of p.0.at)) (zip looks.now patterns.now) }
+{
+    let [field, looks @ ..] = looks else {
+        return true;
+    };
+    let [pattern, patterns @ ..] = patterns else {
+        return true;
+    };
+    agrees(fields, *field, *pattern) && agree_all(looks, patterns, fields)
+}
+
+// Whether each of these fields agrees with its pattern.
+fn agree_all(looks: &[FieldNo], patterns: &[Pattern], fields: &Fields) -> bool
     ensures { result ≡ list_all (λ p. agrees_in (pattern_of p.1) (slice_index fields.now.of p.0.at)) (zip looks.now patterns.now) }
 {
     looks
@@ -90,11 +104,11 @@ fn fits(looks: &[FieldNo], patterns: &[Pattern], fields: &Fields) -> bool
 
 // The index of the first entry that fits the fields.
 fn first_fit(looks: &[FieldNo], entries: &[Entry], fields: &Fields) -> Option<usize>
-    ensures { result ≡ position (λ e. list_all (λ p. agrees_in (pattern_of p.1) (slice_index fields.now.of p.0.at)) (zip looks.now e.patterns.items)) entries.now }
+    ensures { result ≡ position (λ e. list_all (λ p. agrees_in (pattern_of p.1) (slice_index fields.now.of p.0.at)) (zip looks.now (items_of e.patterns))) entries.now }
 {
     entries
         .iter()
-        .position(|entry| fits(looks, &entry.patterns, fields))
+        .position(|entry| fits(looks, entry.patterns.as_slice(), fields))
 }
 
 // The actions in order, each on the fields as the one before has left them.

@@ -4,7 +4,8 @@ use Rattle.model.specs.Action as action
 use Rattle.program.specs.Stands.{FieldNo}
 use Rattle.model.specs.Table as table
 use Rattle.table.specs.Stands.{actions_of, patterns_of, entries_of, edits_of}
-use Rattle.arrayvec.specs.ArrayVec.{ArrayVec}
+use Rattle.few.specs.Few.{items_of}
+use Rattle.few.specs.declared.few.Few.{Few}
 use Rattle.program.specs.declared.action.Action.{Action}
 use Rattle.table.specs.declared.entry.Pattern.{Pattern}
 use Rattle.table.specs.declared.entry.Edit.{Edit}
@@ -46,11 +47,11 @@ abbrev pub change_of : Change → ℕ → action.Operand → action.Action
 change_of changes.Set = action.Set
 change_of changes.Add = action.Add
 
-abbrev pub actions_listed : ArrayVec Action → List action.Action
-actions_listed v = actions_of v.items
+abbrev pub actions_listed : Few Action 4 → List action.Action
+actions_listed v = actions_of (items_of v)
 
-abbrev pub patterns_listed : ArrayVec Pattern → List table.Pattern
-patterns_listed v = patterns_of v.items
+abbrev pub patterns_listed : Few Pattern 4 → List table.Pattern
+patterns_listed v = patterns_of (items_of v)
 
 abbrev pub entries_listed : Vec Entry Global → List table.Entry
 entries_listed v = entries_of (vec_items v)

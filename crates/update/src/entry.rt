@@ -8,7 +8,7 @@ ghost use Rattle.update.specs.Stands.{Gives, actions_listed, patterns_listed};
 use crate::cursor::Cursor;
 use crate::fault::Fault;
 use crate::terms::Terms;
-use arrayvec::ArrayVec;
+use few::few::Few;
 use program::action::Action;
 use program::field::Width;
 use table::entry::{Entry, Pattern};
@@ -27,27 +27,29 @@ impl Cursor<'_> {
     }
 
     // The actions of an entry.
-    fn actions(&mut self, terms: Terms<'_>, count: u8) -> Result<ArrayVec<Action, 4>, Fault>
+    fn actions(&mut self, terms: Terms<'_>, count: u8) -> Result<Few<Action, 4>, Fault>
         requires { count ≤ 4 }
         ensures { Gives (actions_at (declarations_of terms.entry.declarations.now) (table_of terms.entry.table.now) count [] self.old.at self.old.rest.now) result actions_listed self.new.at self.new.rest.now }
     {
-        let mut actions = ArrayVec::new();
+        let mut actions = Few::new();
         for _turn in 0..count {
-            actions.push(self.action(terms)?);
+            actions.push(self.action(terms)?).unwrap();
         }
         Ok(actions)
     }
 
     // A pattern for each field that the table looks at.
-    fn patterns(&mut self, terms: Terms<'_>) -> Result<ArrayVec<Pattern, 4>, Fault>
+    fn patterns(&mut self, terms: Terms<'_>) -> Result<Few<Pattern, 4>, Fault>
         ensures { Gives (patterns_at (declarations_of terms.entry.declarations.now) (table_of terms.entry.table.now).looks [] self.old.at self.old.rest.now) result patterns_listed self.new.at self.new.rest.now }
     {
-        let mut patterns = ArrayVec::new();
+        let mut patterns = Few::new();
         for field in &terms.table.looks {
             if patterns.is_full() {
                 return Err(Fault::NoMemory);
             }
-            patterns.push(self.pattern(terms.declarations.widths.get(*field))?);
+            patterns
+                .push(self.pattern(terms.declarations.widths.get(*field))?)
+                .unwrap();
         }
         Ok(patterns)
     }

@@ -1,5 +1,7 @@
 use Rattle.std.proofs.Common.{ℕ, ◌+◌, List, [], ◌∷◌, ◌++◌, drop, vec_items, sym, ap, ◌∙◌, subst}
+use Rattle.few.specs.Few.{items_of}
 use Rattle.std.proofs.lemmas.List.{map_push}
+use Rattle.std.proofs.lemmas.Result.{MatchResult-at_ok}
 use Rattle.model.specs.Table.{Pattern}
 use Rattle.program.specs.Stands.{declarations_of, numbers_of}
 use Rattle.table.specs.Stands.{pattern_of, patterns_of}
@@ -16,21 +18,21 @@ returns-in_err-pattern c =
     c.from_residual.ensures.1
     (λ (k : Then (List Pattern)).
     subst (λ (z : Decoded). Refuses c.in_err-pattern.field-0.0 z)
-    (ap (λ (n : ℕ). pattern_at n c.loop-field.self.at c.loop-field.self.rest.now (λ w behind rest. patterns_at (declarations_of c.args.terms.declarations.now) (numbers_of (drop (c.loop-field.field-index + 1) (vec_items c.args.terms.table.now.looks))) ((patterns_of c.loop-field.patterns.items) ++ (w ∷ [])) behind rest k)) c.get.ensures
-    ∙ sym (patterns_more (declarations_of c.args.terms.declarations.now) (vec_items c.args.terms.table.now.looks) c.loop-field.field-index c.field-item.result (patterns_of c.loop-field.patterns.items) c.loop-field.self.at c.loop-field.self.rest.now k (rw c.deref-field-items.ensures.value at c.loop-field-test.true) (rw c.deref-field-items.ensures.value at c.field-item.is))
+    (ap (λ (n : ℕ). pattern_at n c.loop-field.self.at c.loop-field.self.rest.now (λ w behind rest. patterns_at (declarations_of c.args.terms.declarations.now) (numbers_of (drop (c.loop-field.field-index + 1) (vec_items c.args.terms.table.now.looks))) (patterns_of (items_of c.loop-field.patterns) ++ (w ∷ [])) behind rest k)) c.get.ensures
+    ∙ sym (patterns_more (declarations_of c.args.terms.declarations.now) (vec_items c.args.terms.table.now.looks) c.loop-field.field-index c.field-item.result (patterns_of (items_of c.loop-field.patterns)) c.loop-field.self.at c.loop-field.self.rest.now k (rw c.deref-field-items.ensures.value at c.loop-field-test.true) (rw c.deref-field-items.ensures.value at c.field-item.is))
     ∙ c.loop-field.invariant k)
-    (c.in_err-pattern.ensures (λ w behind rest. patterns_at (declarations_of c.args.terms.declarations.now) (numbers_of (drop (c.loop-field.field-index + 1) (vec_items c.args.terms.table.now.looks))) ((patterns_of c.loop-field.patterns.items) ++ (w ∷ [])) behind rest k)))
+    (c.in_err-pattern.ensures (λ w behind rest. patterns_at (declarations_of c.args.terms.declarations.now) (numbers_of (drop (c.loop-field.field-index + 1) (vec_items c.args.terms.table.now.looks))) (patterns_of (items_of c.loop-field.patterns) ++ (w ∷ [])) behind rest k)))
 
 pub loop-field-preserved : goal.loop-field-preserved
 loop-field-preserved c k =
     ap (λ (l : List Pattern). patterns_at (declarations_of c.args.terms.declarations.now) (numbers_of (drop (c.loop-field.field-index + 1) (vec_items c.args.terms.table.now.looks))) l c.pattern.new.self.at c.pattern.new.self.rest.now k)
-    (ap patterns_of c.push.ensures.items ∙ map_push pattern_of c.loop-field.patterns.items c.in_ok-pattern.field-0)
-    ∙ sym (c.in_ok-pattern.ensures (λ w behind rest. patterns_at (declarations_of c.args.terms.declarations.now) (numbers_of (drop (c.loop-field.field-index + 1) (vec_items c.args.terms.table.now.looks))) ((patterns_of c.loop-field.patterns.items) ++ (w ∷ [])) behind rest k))
-    ∙ ap (λ (n : ℕ). pattern_at n c.loop-field.self.at c.loop-field.self.rest.now (λ w behind rest. patterns_at (declarations_of c.args.terms.declarations.now) (numbers_of (drop (c.loop-field.field-index + 1) (vec_items c.args.terms.table.now.looks))) ((patterns_of c.loop-field.patterns.items) ++ (w ∷ [])) behind rest k)) c.get.ensures
-    ∙ sym (patterns_more (declarations_of c.args.terms.declarations.now) (vec_items c.args.terms.table.now.looks) c.loop-field.field-index c.field-item.result (patterns_of c.loop-field.patterns.items) c.loop-field.self.at c.loop-field.self.rest.now k (rw c.deref-field-items.ensures.value at c.loop-field-test.true) (rw c.deref-field-items.ensures.value at c.field-item.is))
+    (ap patterns_of (MatchResult-at_ok _ _ c.unwrap.result c.unwrap.ensures c.push.ensures) ∙ map_push pattern_of (items_of c.loop-field.patterns) c.in_ok-pattern.field-0)
+    ∙ sym (c.in_ok-pattern.ensures (λ w behind rest. patterns_at (declarations_of c.args.terms.declarations.now) (numbers_of (drop (c.loop-field.field-index + 1) (vec_items c.args.terms.table.now.looks))) (patterns_of (items_of c.loop-field.patterns) ++ (w ∷ [])) behind rest k))
+    ∙ ap (λ (n : ℕ). pattern_at n c.loop-field.self.at c.loop-field.self.rest.now (λ w behind rest. patterns_at (declarations_of c.args.terms.declarations.now) (numbers_of (drop (c.loop-field.field-index + 1) (vec_items c.args.terms.table.now.looks))) (patterns_of (items_of c.loop-field.patterns) ++ (w ∷ [])) behind rest k)) c.get.ensures
+    ∙ sym (patterns_more (declarations_of c.args.terms.declarations.now) (vec_items c.args.terms.table.now.looks) c.loop-field.field-index c.field-item.result (patterns_of (items_of c.loop-field.patterns)) c.loop-field.self.at c.loop-field.self.rest.now k (rw c.deref-field-items.ensures.value at c.loop-field-test.true) (rw c.deref-field-items.ensures.value at c.field-item.is))
     ∙ c.loop-field.invariant k
 
 pub returns : goal.returns
 returns c k =
     sym (c.loop-field.invariant k)
-    ∙ patterns_end (declarations_of c.args.terms.declarations.now) (vec_items c.args.terms.table.now.looks) c.loop-field.field-index (patterns_of c.loop-field.patterns.items) c.loop-field.self.at c.loop-field.self.rest.now k (rw c.deref-field-items.ensures.value at c.loop-field-test.false)
+    ∙ patterns_end (declarations_of c.args.terms.declarations.now) (vec_items c.args.terms.table.now.looks) c.loop-field.field-index (patterns_of (items_of c.loop-field.patterns)) c.loop-field.self.at c.loop-field.self.rest.now k (rw c.deref-field-items.ensures.value at c.loop-field-test.false)
