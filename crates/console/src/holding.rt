@@ -1,8 +1,8 @@
 // Reading on behind what is held, and letting go of what was served.
 ghost use Rattle.std.specs.Prelude.{◌≡◌, ◌≤◌, ◌<◌, ◌+◌, true, false, [], length, drop, take, IfOk, OnOk, OnErr, IfErr};
-ghost use Rattle.std.specs.Io.{ReadsAtMost, StartsWith, appended_bytes};
+ghost use Rattle.std.specs.Io.{StartsWith, appended_bytes};
 ghost use Rattle.std.specs.Io.KnownBytes.{Consumes, IsAtEnd, Keeps};
-ghost use Rattle.console.specs.Holding.{held_bytes, held_room};
+ghost use Rattle.console.specs.Holding.{held_bytes, held_size, held_room};
 
 use crate::failure::Failure;
 use crate::held::Held;
@@ -34,14 +34,15 @@ impl Held {
     }
 
     // Reads once behind what is held, which grows by what came, and says whether there was anything left to read. Memory follows what came, and
-    // not what a length field says; it is asked for only where what is held has no room for a piece more.
+    // not what a length field says; it is asked for only where what is held fills the buffer, and there is no room for a piece more.
     pub fn read_on<R: Read>(&mut self, input: &mut R) -> Result<bool, Failure>
         ensures appends { StartsWith (held_bytes self.new) (held_bytes self.old) }
         ensures came { OnOk result (Consumes (R.remaining input.old) (R.remaining input.new) (appended_bytes (held_bytes self.old) (held_bytes self.new))) }
         ensures more { IfOk result (λ more. more ≡ true → length (held_bytes self.old) < length (held_bytes self.new)) }
         ensures ends { IfOk result (λ more. more ≡ false → (held_bytes self.new ≡ held_bytes self.old) × IsAtEnd (R.remaining input.new)) }
         ensures err { OnErr result (held_bytes self.new ≡ held_bytes self.old) }
-        ensures memory { IfErr result (λ e. e ≡ Failure.Memory → held_room self.old < length (held_bytes self.old) + 262144) }
+        ensures untaken { OnErr result (Keeps (R.remaining input.old) (R.remaining input.new)) }
+        ensures memory { IfErr result (λ e. e ≡ Failure.Memory → (length (held_bytes self.old) ≡ held_size self.old) × (held_room self.old < held_size self.old + 262144)) }
         ensures room { held_room self.old ≤ held_room self.new }
     {
         self.make_room()?;
@@ -55,7 +56,7 @@ impl Held {
         ensures same { self.new.filled ≡ self.old.filled }
         ensures bytes { held_bytes self.new ≡ held_bytes self.old }
         ensures some { OnOk result (self.new.filled < length self.new.buffer.items) }
-        ensures err { IfErr result (λ e. (e ≡ Failure.Memory) × (held_room self.old < length (held_bytes self.old) + 262144)) }
+        ensures err { IfErr result (λ e. (e ≡ Failure.Memory) × (length (held_bytes self.old) ≡ held_size self.old) × (held_room self.old < held_size self.old + 262144)) }
         ensures room { held_room self.old ≤ held_room self.new }
     {
         let size = self.buffer.len();
@@ -68,6 +69,7 @@ impl Held {
     // The first `used` of the bytes that are held go; the others move to the front.
     pub fn release(&mut self, used: usize)
         ensures rest { held_bytes self.new ≡ drop used (held_bytes self.old) }
+        ensures size { held_size self.new ≡ held_size self.old }
         ensures room { held_room self.new ≡ held_room self.old }
     {
         // While a long frame comes in, what is held of it stays where it is.
@@ -88,6 +90,7 @@ fn read_at<R: Read>(input: &mut R, buffer: &mut [u8], at: usize) -> Result<usize
     ensures came { IfOk result (λ came. Consumes (R.remaining input.old) (R.remaining input.new) (take came (drop at buffer.new))) }
     ensures ends { IfOk result (λ came. came ≡ 0 → IsAtEnd (R.remaining input.new)) }
     ensures err { IfErr result (λ e. (error : _) × (e ≡ Failure.Input error)) }
+    ensures untaken { OnErr result (Keeps (R.remaining input.old) (R.remaining input.new)) }
 {
     read(input, &mut buffer[at..])
 }
@@ -98,6 +101,7 @@ fn read<R: Read>(input: &mut R, to: &mut [u8]) -> Result<usize, Failure>
     ensures came { IfOk result (λ came. Consumes (R.remaining input.old) (R.remaining input.new) (take came to.new)) }
     ensures ends { IfOk result (λ came. came ≡ 0 → 0 < length to.old → IsAtEnd (R.remaining input.new)) }
     ensures err { IfErr result (λ e. (error : _) × (e ≡ Failure.Input error)) }
+    ensures untaken { OnErr result (Keeps (R.remaining input.old) (R.remaining input.new)) }
 {
     for _ in 0..u64::MAX {
         match input.read(to) {
@@ -132,6 +136,25 @@ mod tests {
         assert!(rt; held.bytes() == b"held frames".as_slice());
         held.release(5);
         assert!(rt; held.bytes() == b"frames".as_slice());
+        Ok(())
+    }
+
+    // More than the buffer is at the start: it grows, and keeps what it has.
+    #[test]
+    fn grows_with_what_comes(rt: HostRuntime) -> Result<(), Fail> {
+        let long = vec![in rt.alloc(); 7u8; 300_000]?;
+        let mut input: &[u8] = &long;
+        let Ok(mut held) = Held::new(rt.alloc()) else {
+            return Err(Fail::new("no memory"));
+        };
+        let (Ok(true), Ok(true), Ok(false)) = (
+            held.read_on(&mut input),
+            held.read_on(&mut input),
+            held.read_on(&mut input),
+        ) else {
+            return Err(Fail::new("not read to the end"));
+        };
+        assert!(rt; held.bytes() == long.as_slice());
         Ok(())
     }
 }

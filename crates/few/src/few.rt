@@ -8,7 +8,3 @@ pub struct Few<T, const N: usize> {
     pub all: [T; N],
     ghost fits: { count ≤ N },
 }
-
-// One more would not fit.
-#[derive(Clone, Copy, Debug, PartialEq, Eq)]
-pub struct Full;

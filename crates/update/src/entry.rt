@@ -31,27 +31,33 @@ impl Cursor<'_> {
         requires { count ≤ 4 }
         ensures { Gives (actions_at (declarations_of terms.entry.declarations.now) (table_of terms.entry.table.now) count [] self.old.at self.old.rest.now) result actions_listed self.new.at self.new.rest.now }
     {
-        let mut actions = Few::new();
-        for _turn in 0..count {
-            actions.push(self.action(terms)?).unwrap();
+        // An array first, and its length at last: pushed one by one, what was just written is read back in other pieces, which takes a third longer.
+        let mut all = [Action::default(); 4];
+        for k in 0..count {
+            let action = self.action(terms)?;
+            all[k as usize] = action;
         }
-        Ok(actions)
+        Ok(Few {
+            count: count as usize,
+            all,
+        })
     }
 
     // A pattern for each field that the table looks at.
     fn patterns(&mut self, terms: Terms<'_>) -> Result<Few<Pattern, 4>, Fault>
         ensures { Gives (patterns_at (declarations_of terms.entry.declarations.now) (table_of terms.entry.table.now).looks [] self.old.at self.old.rest.now) result patterns_listed self.new.at self.new.rest.now }
     {
-        let mut patterns = Few::new();
+        let mut all = [Pattern::default(); 4];
+        let mut count = 0usize;
         for field in &terms.table.looks {
-            if patterns.is_full() {
+            if count == all.len() {
                 return Err(Fault::NoMemory);
             }
-            patterns
-                .push(self.pattern(terms.declarations.widths.get(*field))?)
-                .unwrap();
+            let pattern = self.pattern(terms.declarations.widths.get(*field))?;
+            all[count] = pattern;
+            count += 1;
         }
-        Ok(patterns)
+        Ok(Few { count, all })
     }
 
     // A value and a mask that fit so many bits.
